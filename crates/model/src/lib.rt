@@ -1,4 +1,6 @@
-// What can happen in the valley, and what comes of it.
+// What can happen in the valley, and what comes of it. specs/Promise.antt has what is promised of every run.
+pub mod theorems;
+
 use faults::Fault;
 use faults::FaultDebug;
 use faults::FaultPartialEq;
@@ -39,8 +41,8 @@ pub enum Answer {
     Today,
     // the card is barred, and this is the barring's number
     Barring(u32),
-    // the card has the list with this number now
-    List(u32),
+    // the card is given the list with this number
+    Given(u32),
     // the desk refused, and nothing has changed
     Refused(Fault),
     // the lock decided

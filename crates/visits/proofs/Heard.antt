@@ -7,7 +7,7 @@ use Prim.Native.Nat.{ℕ, _<_, _≤_}
 use lib.Dec.{eqb, ltb, leb}
 use Rattle.std.specs.declared.option.Option.{Option}
 use Rattle.std.specs.declared.option.Option.the-variants.{Some, None}
-use Rattle.std.proofs.shelf.Tests.{lt-ltb, le-ltb, le-leb, lt-leb, eq-eqb, ne-eqb, cond-true, cond-false, cases-bool, and-parts, and-left, and-right, and-from, ltb-true, eqb-true}
+use Rattle.std.proofs.shelf.Tests.{lt-ltb, le-ltb, le-leb, lt-leb, eq-eqb, ne-eqb, cond-true, cond-false, cases-bool, and-parts, and-left, and-right, and-from, ltb-true, eqb-true, both-ways}
 use Rattle.faults.specs.declared.Fault.the-variants.{Barred}
 use Rattle.faults.specs.declared.VisitEnd.the-variants.{Opened, Refused}
 use Rattle.lists.specs.Listed.{listed}
@@ -30,6 +30,12 @@ taken n says t lt e = (refl, cond-true _ t n (and-from _ _ (lt-ltb n says lt) (e
 pub other-number : (n says t : ℕ) → (t ≡ says → ⊥) → (comes n says (Some t) ≡ true) × (heard n says (Some t) ≡ n)
 unfolding comes heard
 other-number n says t ne = (refl, cond-false _ t n (and-right _ _ (ne-eqb t says ne)))
+
+-- where the visit comes to no decision, the lock has what it had
+pub undecided : (n says : ℕ) (gives : Option ℕ) → comes n says gives ≡ false → heard n says gives ≡ n
+unfolding comes heard
+undecided n says None f = refl
+undecided n says (Some t) f = absurd (both-ways true f refl)
 
 -- the lock has what it had, or a newer list that was given with its own number said
 pub heard-is : (n says : ℕ) (gives : Option ℕ) → (heard n says gives ≡ n) ⊎ ((gives ≡ Some says) × (n < says) × (heard n says gives ≡ says))

@@ -1,0 +1,4 @@
+pub mod Run
+pub mod Informed
+pub mod Promise
+pub mod Cases
