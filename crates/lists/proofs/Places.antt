@@ -1,7 +1,7 @@
 -- `listed` says whether a card stands at some place. Assumes nothing.
 use mathlib.Core.Path.{_≡_, refl, sym, ap}
 use mathlib.Core.Bool.{Bool, true, false, _||_}
-use mathlib.Core.List.{List, [], _∷_}
+use mathlib.Core.List.{List, [], _∷_, _++_}
 use mathlib.Core.Logic.{_⊎_, inl, inr}
 use Prim.Native.Nat.{ℕ, zero, suc, _+_, _<_, _≤_}
 use native.Mathlib.Omega.{arith}
@@ -9,7 +9,7 @@ use native.Mathlib.Nat.{not-suc-le-zero}
 use lib.Dec.{eqb}
 use lib.ListN.{length, getD, take}
 use Rattle.std.specs.Orderings.{Decides}
-use Rattle.std.proofs.shelf.Tests.{both-ways, or-cases, or-left, or-right, eqb-true, eq-eqb, cases-bool}
+use Rattle.std.proofs.shelf.Tests.{both-ways, or-cases, or-left, or-right, eqb-true, eq-eqb, ne-eqb, cases-bool}
 use Rattle.lists.specs.Listed.{listed, Stands}
 
 pub stands : (c : ℕ) (xs : List ℕ) → listed c xs ≡ true → Stands c xs
@@ -37,3 +37,14 @@ absent c xs none =
       | inl t ↦ let w = stands c xs t in absurd (none (w .0) (w .1) (w .2))
       | inr f ↦ f
     ]
+
+-- one more at the list's end
+pub push-same : (xs : List ℕ) (y : ℕ) → listed y (xs ++ (y ∷ [])) ≡ true
+unfolding listed
+push-same [] y = or-left _ _ (eq-eqb y y refl)
+push-same (x ∷ xs) y = or-right _ _ (push-same xs y)
+
+pub push-other : (c : ℕ) (xs : List ℕ) (y : ℕ) → (c ≡ y → ⊥) → listed c (xs ++ (y ∷ [])) ≡ listed c xs
+unfolding listed
+push-other c [] y ne = rw (ne-eqb c y ne) refl
+push-other c (x ∷ xs) y ne = ap (λ (b : Bool). eqb c x || b) (push-other c xs y ne)
