@@ -97,6 +97,14 @@ module _ (es : List Event) (e : Event) where
   list-at : ℕ → List ℕ
   list-at l = take (number (Lock l) (after (e ∷ es))) (after (e ∷ es) .barred)
 
+  either : (c l : ℕ) → Shows (after es) e c l → TurnsAway (answer e (after es)) ⊎ Opens (answer e (after es))
+  unfolding list-at
+  either c l sh =
+      elim (cases-bool (listed c (list-at l))) [
+        | inl t ↦ inl (bars c (list-at l) _ (decided-by es sh) t)
+        | inr f ↦ inr (lets c (list-at l) _ (decided-by es sh) f)
+      ]
+
   turned-away : (c l : ℕ) → Shows (after es) e c l → (TurnsAway (answer e (after es)) ↔ KnowsBarred (e ∷ es) c l)
   unfolding list-at
   turned-away c l sh =
@@ -185,6 +193,7 @@ unchanged es (Adversary c l says gives) un =
 
 pub main : Main
 main es e = record {
+  either = either es e;
   turned-away = turned-away es e;
   let-in = let-in es e;
   never-barred = never-barred es e;

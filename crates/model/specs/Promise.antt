@@ -51,6 +51,8 @@ Unmoved (Decided v) = ⊥
 
 -- THE PROMISE on one event e after the events es, the latest first, that was answered with a.
 pub record Promise (es : List Event) (e : Event) (a : Answer) : Type 0 where
+  -- a visit that comes to the lock's decision ends in one of two ways
+  pub either : (c l : ℕ) → Shows (after es) e c l → TurnsAway a ⊎ Opens a
   -- whoever shows a card, it is turned away as barred exactly if word of its barring can have come to the lock
   pub turned-away : (c l : ℕ) → Shows (after es) e c l → (TurnsAway a ↔ KnowsBarred (e ∷ es) c l)
   -- and every other card is let in

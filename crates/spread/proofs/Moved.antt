@@ -40,9 +40,9 @@ module _ (day : ℕ) (bars : List ℕ) (cards : List (Option CardMemory)) (locks
       let n : newer (a .list) (k .list) ≡ newer (card-list (getD cards c None)) (lock-list (getD locks l None)) = rw (has-card, has-lock) refl in
       same-state refl refl (set-put card-list cards c (Some b) _ c-in (p ∙ n)) (set-put lock-list locks l (Some m) _ l-in (q ∙ n))
 
-  pub visit-says : (n : ℕ) (end : VisitEnd) → n ≡ newer (a .list) (k .list) → end ≡ decision c (take n bars) →
-      Decided end ≡ answer (Visit c l) (state-from day bars cards locks)
-  visit-says n end p q = rw (has-card, has-lock) (ap Decided (q ∙ ap (λ (x : ℕ). decision c (take x bars)) p))
+  pub visit-says : (n : ℕ) (x : Answer) → n ≡ newer (a .list) (k .list) → x ≡ Decided (decision c (take n bars)) →
+      x ≡ answer (Visit c l) (state-from day bars cards locks)
+  visit-says n x p q = rw (has-card, has-lock) (q ∙ ap (λ (y : ℕ). Decided (decision c (take y bars))) p)
 
   pub same-roster : (b : CardMemory) (m : LockMemory) (h : Holder) → roster-from (set cards c (Some b)) (set locks l (Some m)) h ≡ roster-from cards locks h
   same-roster b m (Card d) = set-under isSome cards c (Some b) c-in (sym (ap isSome has-card)) d

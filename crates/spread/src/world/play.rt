@@ -1,8 +1,10 @@
 // What each event does.
 ghost use mathlib.Core.Path.{_≡_};
-ghost use lib.ListN.{getD};
+ghost use lib.ListN.{getD, take};
 ghost use Rattle.std.specs.Of.Vec.{vec-items};
 ghost use Rattle.std.specs.declared.option.Option.the-variants.{None};
+ghost use Rattle.visits.specs.Exchange.{decision};
+ghost use Rattle.model.specs.declared.Answer.the-variants.{Decided};
 ghost use Rattle.model.specs.declared.Event.{Event};
 ghost use Rattle.model.specs.declared.Holder.{Holder};
 ghost use Rattle.spread.specs.Roster.{missing, unless};
@@ -78,6 +80,13 @@ impl World {
         Ok(Answer::Given(number))
     }
 
+    // What a lock says to a card, by its list as it is now.
+    fn decided(&self, card: u16, host: Lock) -> Answer
+        ensures { λ r. ⌜ r ≡ Decided (decision card (take (host .list) (vec-items (now (self .entry) .desk .barred)))) ⌝ }
+    {
+        Answer::Decided(decide(self.desk.list(host.list()), u32::from(card)))
+    }
+
     fn visit(&mut self, card: u16, lock: u16) -> Result<Answer, Holder>
         ensures { λ r. ⌜ Steps (now (self .entry)) (Event.Visit card lock) r (now (self .exit)) ⌝ }
     {
@@ -90,8 +99,7 @@ impl World {
         exchange(&mut visitor, &mut host);
         self.cards[card as usize] = Some(visitor);
         self.locks[lock as usize] = Some(host);
-        let end = decide(self.desk.list(host.list()), u32::from(card));
-        Ok(Answer::Decided(end))
+        Ok(self.decided(card, host))
     }
 
     fn adversary(
@@ -116,8 +124,7 @@ impl World {
             return Ok(Answer::BrokenOff);
         }
         self.locks[lock as usize] = Some(host);
-        let end = decide(self.desk.list(host.list()), u32::from(card));
-        Ok(Answer::Decided(end))
+        Ok(self.decided(card, host))
     }
 
     // Whether an adversary can have the list that it gives: only if the desk once signed it.

@@ -1,9 +1,8 @@
 use mathlib.Core.Path.{_≡_, sym, ap, _∙_}
 use Prim.Native.Nat.{_<_}
 use native.Mathlib.Omega.{arith}
-use lib.ListN.{length, getD, take}
+use lib.ListN.{length, getD}
 use Rattle.std.specs.declared.option.Option.the-variants.{Some, None}
-use Rattle.visits.specs.Exchange.{newer, decision}
 use Rattle.spread.proofs.Moved.{both-there, visit-state, visit-says, same-roster}
 use Rattle.spread.proofs.world.World.visit.Needs as need
 
@@ -24,10 +23,9 @@ returns c =
     let v : y < length locks = omega (arith, w .locks .ok .0, w .«lock_places», c .fits .lock) in
     let b = c .exchange .last .card in
     let m = c .exchange .last .lock in
-    let e : c .decide-end .result ≡ decision x (take (c .list .result) bars) = cc in
     record {
       known = both-there day bars cards locks x y a k p q u v;
-      says = visit-says day bars cards locks x y a k p q u v (c .list .result) _ (c .list .ensures ∙ c .exchange .ensures .lock) e;
+      says = visit-says day bars cards locks x y a k p q u v (m .list) _ (c .exchange .ensures .lock) (c .decided .ensures);
       state = visit-state day bars cards locks x y a k p q u v b m (c .exchange .ensures .card) (c .exchange .ensures .lock);
       there = same-roster day bars cards locks x y a k p q u v b m;
     }
