@@ -1,0 +1,130 @@
+// Runs of the world, by example. They stand in a crate of their own, since a crate with tests is proved twice.
+#[cfg(test)]
+mod tests {
+    use faults::Fault;
+    use faults::VisitEnd;
+    use model::Answer;
+    use model::AnswerDebug;
+    use model::AnswerPartialEq;
+    use model::Event;
+    use model::Holder;
+    use model::HolderDebug;
+    use model::HolderPartialEq;
+    use spread::RunError;
+    use spread::World;
+    use spread::run;
+    use std::alloc::Global;
+    use std::test::*;
+
+    const OPENED: Answer = Answer::Decided(VisitEnd::Opened);
+    const BARRED: Answer = Answer::Decided(VisitEnd::Refused(Fault::Barred));
+
+    // Plays events among cards 1, 2, 7 and locks 5, 6, 8, and compares what came of each.
+    fn plays(heap: Global, events: &[Event], wanted: &[Answer]) -> Result<(), Fail> {
+        let Ok(report) = run(heap, &[1, 2, 7], &[5, 6, 8], events) else {
+            return Err(Fail::new("not played"));
+        };
+        check_eq(report.answers.len(), wanted.len())?;
+        for (answer, expected) in report.answers.iter().zip(wanted) {
+            check_eq(*answer, *expected)?;
+        }
+        Ok(())
+    }
+
+    // Somebody that is not set up: the place of the event, and nothing played.
+    fn refuses(heap: Global, events: &[Event], place: usize, named: Holder) -> Result<(), Fail> {
+        let Err(error) = run(heap, &[1, 7], &[5], events) else {
+            return Err(Fail::new("played"));
+        };
+        let RunError::Unknown { at, who } = error else {
+            return Err(Fail::new("no memory"));
+        };
+        check_eq(at, place)?;
+        check_eq(who, named)
+    }
+
+    fn thief(card: u16, lock: u16) -> Event {
+        Event::Adversary { card, lock, says: 0, gives: None }
+    }
+
+    #[test]
+    fn nothing_happens(rt: LibcRuntime) -> Result<(), Fail> {
+        plays(rt.alloc(), &[], &[])
+    }
+
+    #[test]
+    fn unknown_card(rt: LibcRuntime) -> Result<(), Fail> {
+        let events = [Event::Bar(7), Event::AtDesk(9), Event::Bar(8)];
+        refuses(rt.alloc(), &events, 1, Holder::Card(9))
+    }
+
+    #[test]
+    fn unknown_lock(rt: LibcRuntime) -> Result<(), Fail> {
+        let events = [Event::Visit { card: 1, lock: 6 }];
+        refuses(rt.alloc(), &events, 0, Holder::Lock(6))?;
+        let mut world = World::new(rt.alloc(), &[1, 7], &[5])?;
+        let Err(who) = world.step(thief(7, 6)) else {
+            return Err(Fail::new("played"));
+        };
+        check_eq(who, Holder::Lock(6))
+    }
+
+    #[test]
+    fn barred_twice(rt: LibcRuntime) -> Result<(), Fail> {
+        let events = [Event::Bar(7), Event::Bar(7), Event::Bar(2), Event::AtDesk(1)];
+        let wanted = [
+            Answer::Barring(0),
+            Answer::Refused(Fault::BarredAlready),
+            Answer::Barring(1),
+            Answer::Given(2),
+        ];
+        plays(rt.alloc(), &events, &wanted)
+    }
+
+    #[test]
+    fn days_never_go_back(rt: LibcRuntime) -> Result<(), Fail> {
+        let events = [Event::Day(3), Event::Day(3), Event::Day(2)];
+        let wanted = [Answer::Today, Answer::Today, Answer::Refused(Fault::OutOfRange)];
+        plays(rt.alloc(), &events, &wanted)
+    }
+
+    // Word goes from the desk over lock 5 and card 2 to lock 6; lock 8 hears nothing.
+    #[test]
+    fn three_locks(rt: LibcRuntime) -> Result<(), Fail> {
+        let events = [
+            Event::Bar(7),
+            Event::AtDesk(1),
+            Event::Visit { card: 1, lock: 5 },
+            Event::Visit { card: 2, lock: 5 },
+            Event::Visit { card: 2, lock: 6 },
+            thief(7, 5),
+            thief(7, 6),
+            thief(7, 8),
+        ];
+        let wanted = [
+            Answer::Barring(0),
+            Answer::Given(1),
+            OPENED,
+            OPENED,
+            OPENED,
+            BARRED,
+            BARRED,
+            OPENED,
+        ];
+        plays(rt.alloc(), &events, &wanted)
+    }
+
+    // A list that was never signed, one with another number than was said, none where one is awaited, and one given as what it is.
+    #[test]
+    fn adversaries(rt: LibcRuntime) -> Result<(), Fail> {
+        let events = [
+            Event::Bar(7),
+            Event::Adversary { card: 7, lock: 5, says: 2, gives: Some(2) },
+            Event::Adversary { card: 7, lock: 5, says: 2, gives: Some(1) },
+            Event::Adversary { card: 7, lock: 5, says: 1, gives: None },
+            Event::Adversary { card: 7, lock: 5, says: 1, gives: Some(1) },
+        ];
+        let wanted = [Answer::Barring(0), Answer::NoList, OPENED, Answer::BrokenOff, BARRED];
+        plays(rt.alloc(), &events, &wanted)
+    }
+}
