@@ -1,7 +1,7 @@
 -- What each event brings about, and what a row of events leaves. Assumes nothing.
 use mathlib.Core.Path.{_≡_}
 use mathlib.Core.Bool.{Bool, true, false, cond, _&&_}
-use mathlib.Core.List.{List, [], _∷_, reverse}
+use mathlib.Core.List.{List, [], _∷_, _++_, reverse}
 use Prim.Native.Nat.{ℕ}
 use lib.Dec.{eqb}
 use lib.ListN.{length, take}
@@ -82,6 +82,6 @@ unfoldable pub after : List Event → State
 after [] = start
 after (e ∷ es) = step e (after es)
 
--- the events before place i of a row, the latest first
-abbrev pub before : ℕ → List Event → List Event
-before i es = reverse (take i es)
+-- all events before place i of a row, the latest first, where some came before the row
+abbrev pub before : List Event → ℕ → List Event → List Event
+before past i events = reverse (take i events) ++ past

@@ -7,7 +7,6 @@ use Prim.Native.Nat.{ℕ, zero, suc, _+_, _≤_, _<_}
 use native.Mathlib.Omega.{arith}
 use native.Mathlib.Nat.{not-suc-le-zero}
 use lib.ListN.{length, getD, take}
-use Rattle.std.specs.Of.Vec.{vec-len, vec-items}
 use Rattle.std.specs.declared.option.Option.{Option}
 use Rattle.std.specs.declared.option.Option.the-variants.{Some, None}
 use Rattle.std.proofs.shelf.Lists.{take-more, take-all, length-push, getD-push, getD-append-left, getD-default}
@@ -21,9 +20,8 @@ use Rattle.model.specs.Run.{State, start, step, answer, after, before}
 use Rattle.model.specs.Promise.{Promise}
 use Rattle.model.proofs.Promised.{main}
 use Rattle.spread.specs.declared.world.World.{World}
-use Rattle.spread.specs.declared.world.Report.{Report}
-use Rattle.spread.specs.Roster.{set-up, missing, unless}
-use Rattle.spread.specs.World.{state-of, roster, Fresh, Moves, Stays, AllKnown, FirstUnknown, Played}
+use Rattle.spread.specs.Roster.{missing, unless}
+use Rattle.spread.specs.World.{state-of, roster, Moves, Stays, AllKnown, FirstUnknown, Played}
 
 -- who is missing depends only on the roster
 unless-same : (f g : Holder → Bool) (h : Holder) (n m : Option Holder) → f h ≡ g h → n ≡ m → unless f h n ≡ unless g h m
@@ -36,74 +34,68 @@ same-missing f g same (AtDesk c) = unless-same f g (Card c) None None (same (Car
 same-missing f g same (Visit c l) = unless-same f g (Card c) _ _ (same (Card c)) (unless-same f g (Lock l) None None (same (Lock l)) refl)
 same-missing f g same (Adversary c l says gives) = unless-same f g (Card c) _ _ (same (Card c)) (unless-same f g (Lock l) None None (same (Lock l)) refl)
 
-pub same-first : (f g : Holder → Bool) → ((h : Holder) → f h ≡ g h) → (events : List Event) (r : Option (ℕ × Holder)) → FirstUnknown f events r → FirstUnknown g events r
-same-first f g same events None k = λ i e lt. sym (same-missing f g same (getD events i e)) ∙ k i e lt
-same-first f g same events (Some p) k =
-    (k .0, λ e. sym (same-missing f g same (getD events (p .0) e)) ∙ k .1 e, λ i e lt. sym (same-missing f g same (getD events i e)) ∙ k .2 i e lt)
-
--- how far a run has come: i events are played
-pub record SoFar (cards locks : List ℕ) (events : List Event) (i : ℕ) (w : World) (answers : List Answer) : Type 0 where
-  pub known : AllKnown (set-up cards locks) events (length events)
-  pub there : (h : Holder) → roster w h ≡ set-up cards locks h
-  pub state : state-of w ≡ after (before i events)
+-- how far a run has come: i events are played, after whatever happened before
+pub record SoFar (first : World) (events : List Event) (i : ℕ) (w : World) (answers : List Answer) : Type 0 where
+  pub known : AllKnown (roster first) events (length events)
+  pub there : (h : Holder) → roster w h ≡ roster first h
   pub count : length answers ≡ i
-  pub says : (k : ℕ) (e : Event) (d : Answer) → k < i → getD answers k d ≡ answer (getD events k e) (after (before k events))
+  pub state : (past : List Event) → state-of first ≡ after past → state-of w ≡ after (before past i events)
+  pub says : (past : List Event) → state-of first ≡ after past →
+      (k : ℕ) (e : Event) (d : Answer) → k < i → getD answers k d ≡ answer (getD events k e) (after (before past k events))
 
-pub begins : (cards locks : List ℕ) (events : List Event) (w : World) (answers : List Answer) → Fresh cards locks w → FirstUnknown (roster w) events None → answers ≡ [] →
-    SoFar cards locks events 0 w answers
-unfolding after
-begins cards locks events w answers f k e = record {
-  known = same-first (roster w) (set-up cards locks) (f .there) events None k;
-  there = f .there;
-  state = f .state;
+pub begins : (first : World) (events : List Event) (answers : List Answer) → FirstUnknown (roster first) events None → answers ≡ [] → SoFar first events 0 first answers
+begins first events answers k e = record {
+  known = k;
+  there = λ h. refl;
   count = ap length e;
-  says = λ k e d lt. absurd (not-suc-le-zero lt);
+  state = λ past is. is;
+  says = λ past is k e d lt. absurd (not-suc-le-zero lt);
 }
 
-before-more : (events : List Event) (i : ℕ) (e : Event) → i < length events → before (i + 1) events ≡ getD events i e ∷ before i events
-before-more events i e lt = ap reverse (take-more events i e lt) ∙ reverse-append (take i events) (getD events i e ∷ [])
+before-more : (past events : List Event) (i : ℕ) (e : Event) → i < length events → before past (i + 1) events ≡ getD events i e ∷ before past i events
+before-more past events i e lt = ap (λ (es : List Event). reverse es ++ past) (take-more events i e lt) ∙ ap (λ (es : List Event). es ++ past) (reverse-append (take i events) (getD events i e ∷ []))
 
--- the answer to the next event is the model's
-next-says : (cards locks : List ℕ) (events : List Event) (i : ℕ) (w : World) (answers : List Answer) → SoFar cards locks events i w answers → i < length events →
-    (a : Answer) → ((e : Event) → a ≡ answer (getD events i e) (after (before i events))) → (k : ℕ) (e : Event) (d : Answer) → k < i + 1 →
-    getD (answers ++ (a ∷ [])) k d ≡ answer (getD events k e) (after (before k events))
-next-says cards locks events i w answers s lt a is k e d below =
+-- the answers so far and one more
+next-says : (answers : List Answer) (i : ℕ) (a : Answer) (says : ℕ → Answer → Type 0) → length answers ≡ i → ((k : ℕ) (d : Answer) → k < i → says k (getD answers k d)) → says i a →
+    (k : ℕ) (d : Answer) → k < i + 1 → says k (getD (answers ++ (a ∷ [])) k d)
+next-says answers i a says count so-far now k d below =
     elim (cases-lt k i) [
-      | inl h ↦ getD-append-left answers (a ∷ []) d k (omega (arith, s .count)) ∙ s .says k e d h
-      | inr h ↦ let same : k ≡ i = omega arith in rw same (getD-push answers a d i (s .count) ∙ is e)
+      | inl h ↦ rw (getD-append-left answers (a ∷ []) d k (omega (arith, count))) (so-far k d h)
+      | inr h ↦ let same : k ≡ i = omega arith in rw (same, getD-push answers a d i count) now
     ]
 
-pub goes-on : (cards locks : List ℕ) (events : List Event) (i : ℕ) (w : World) (answers : List Answer) → SoFar cards locks events i w answers → i < length events →
-    (e : Event) (a : Answer) (v : World) → Moves w (getD events i e) a v → (more : List Answer) → more ≡ answers ++ (a ∷ []) → SoFar cards locks events (i + 1) v more
+pub goes-on : (first : World) (events : List Event) (i : ℕ) (w : World) (answers : List Answer) → SoFar first events i w answers → i < length events →
+    (e : Event) (a : Answer) (v : World) → Moves w (getD events i e) a v → (more : List Answer) → more ≡ answers ++ (a ∷ []) → SoFar first events (i + 1) v more
 unfolding after
-goes-on cards locks events i w answers s lt e a v m more is =
-    let same : (x : Event) → getD events i e ≡ getD events i x = λ x. getD-default events i e x lt in
-    record {
-      known = s .known;
-      there = λ h. m .there h ∙ s .there h;
-      state = m .state ∙ ap (step (getD events i e)) (s .state) ∙ ap after (sym (before-more events i e lt));
-      count = omega (arith, s .count, ap length is, length-push answers a);
-      says = rw is (next-says cards locks events i w answers s lt a (λ x. m .says ∙ ap (answer (getD events i e)) (s .state) ∙ ap (λ (y : Event). answer y (after (before i events))) (same x)));
-    }
+goes-on first events i w answers s lt e a v m more is = record {
+  known = s .known;
+  there = λ h. m .there h ∙ s .there h;
+  count = omega (arith, s .count, ap length is, length-push answers a);
+  state = λ past was. m .state ∙ ap (step (getD events i e)) (s .state past was) ∙ ap after (sym (before-more past events i e lt));
+  says = λ past was k x d below.
+      rw is (next-says answers i a (λ j y. y ≡ answer (getD events j x) (after (before past j events))) (s .count) (λ j y h. s .says past was j x y h)
+      (m .says ∙ ap (answer (getD events i e)) (s .state past was) ∙ ap (λ (y : Event). answer y (after (before past i events))) (getD-default events i e x lt)) k d below);
+}
 
 -- no event of a run fails
-pub never-stays : (cards locks : List ℕ) (events : List Event) (i : ℕ) (w : World) (answers : List Answer) → SoFar cards locks events i w answers → i < length events →
+pub never-stays : (first : World) (events : List Event) (i : ℕ) (w : World) (answers : List Answer) → SoFar first events i w answers → i < length events →
     (e : Event) (who : Holder) (v : World) → Stays w (getD events i e) who v → ⊥
-never-stays cards locks events i w answers s lt e who v m =
-    let p : Some who ≡ None = sym (m .unknown) ∙ same-missing (roster w) (set-up cards locks) (s .there) (getD events i e) ∙ s .known i e lt in
+never-stays first events i w answers s lt e who v m =
+    let p : Some who ≡ None = sym (m .unknown) ∙ same-missing (roster w) (roster first) (s .there) (getD events i e) ∙ s .known i e lt in
     let z : _≡_ {A = ℕ} 0 1 = cc in omega arith
 
-pub ends : (cards locks : List ℕ) (events : List Event) (i : ℕ) (t : Report) → length events ≤ i → SoFar cards locks events i (t .world) (vec-items (t .answers)) → i ≤ length events →
-    Played cards locks events t
-ends cards locks events i t le s ge =
+pub ends : (first : World) (events : List Event) (i : ℕ) (w : World) (answers : List Answer) → length events ≤ i → i ≤ length events → SoFar first events i w answers → Played first events w answers
+ends first events i w answers le ge s =
     let whole : i ≡ length events = omega arith in
     record {
       known = s .known;
       there = s .there;
-      state = s .state ∙ ap (λ (es : List Event). after (reverse es)) (take-all i events le);
-      count = t .answers .ok .0 ∙ s .count ∙ whole;
-      says = λ k e d lt. s .says k e d (omega (arith, lt));
-      promised = λ k e d lt. subst (Promise (before k events) (getD events k e)) (sym (s .says k e d (omega (arith, lt)))) (main (before k events) (getD events k e));
+      count = s .count ∙ whole;
+      history = λ past is. record {
+        state = s .state past is ∙ ap (λ (es : List Event). after (reverse es ++ past)) (take-all i events le);
+        says = λ k e d lt. s .says past is k e d (omega (arith, lt));
+        promised = λ k e d lt. subst (Promise (before past k events) (getD events k e)) (sym (s .says past is k e d (omega (arith, lt)))) (main (before past k events) (getD events k e));
+      };
     }
 
 -- one event more that names nobody unknown, and one that does

@@ -1,10 +1,12 @@
 -- The model's state that a world stands for, and what set-up, a step and a run give. Assumes nothing.
 use mathlib.Core.Path.{_≡_}
 use mathlib.Core.Bool.{Bool, true, false, cond}
-use mathlib.Core.List.{List, [], _∷_, reverse}
-use Prim.Native.Nat.{ℕ, _<_}
+use mathlib.Core.List.{List, [], _∷_, _++_, reverse}
+use Prim.Native.Nat.{ℕ, _<_, _≤_}
 use lib.ListN.{length, getD}
-use Rattle.std.specs.Of.Vec.{vec-len, vec-items}
+use Rattle.std.specs.Of.Vec.{vec-cap, vec-items}
+use Rattle.std.specs.declared.alloc.Global.{Global}
+use Rattle.std.specs.declared.vec.Vec.{Vec}
 use Rattle.std.specs.Options.{isSome}
 use Rattle.std.specs.declared.option.Option.{Option}
 use Rattle.std.specs.declared.option.Option.the-variants.{Some, None}
@@ -19,9 +21,8 @@ use Rattle.model.specs.declared.Holder.the-variants.{Card, Lock}
 use Rattle.model.specs.Run.{State, start, step, answer, after, before}
 use Rattle.model.specs.Promise.{Promise}
 use Rattle.spread.specs.declared.world.World.{World}
-use Rattle.spread.specs.declared.world.Report.{Report}
 use Rattle.spread.specs.declared.world.RunError.{RunError}
-use Rattle.spread.specs.declared.world.RunError.the-variants.{NoMemory, Unknown}
+use Rattle.spread.specs.declared.world.RunError.the-variants.{NoRoom, Unknown}
 use Rattle.spread.specs.Roster.{set-up, missing}
 
 -- the number of the list in a card's or a lock's memory; who is not set up has none
@@ -76,16 +77,24 @@ abbrev pub FirstUnknown : (Holder → Bool) → List Event → Option (ℕ × Ho
 FirstUnknown there events None = AllKnown there events (length events)
 FirstUnknown there events (Some p) = (p .0 < length events) × ((e : Event) → missing there (getD events (p .0) e) ≡ Some (p .1)) × AllKnown there events (p .0)
 
--- A RUN, of events in order, from the start. Each event has the model's answer, the world is left as the model's state, and what is promised of the whole holds at each event.
-pub record Played (cards locks : List ℕ) (events : List Event) (t : Report) : Type 0 where
-  pub known : AllKnown (set-up cards locks) events (length events)
-  pub there : (h : Holder) → roster (t .world) h ≡ set-up cards locks h
-  pub state : state-of (t .world) ≡ after (reverse events)
-  pub count : vec-len (t .answers) ≡ length events
-  pub says : (i : ℕ) (e : Event) (d : Answer) → i < length events → getD (vec-items (t .answers)) i d ≡ answer (getD events i e) (after (before i events))
-  pub promised : (i : ℕ) (e : Event) (d : Answer) → i < length events → Promise (before i events) (getD events i e) (getD (vec-items (t .answers)) i d)
+-- A RUN of events, in order, after whatever happened before: each event has the model's answer, the world is left as the model's state, and what is promised of every run holds at each event.
+pub record History (past events : List Event) (v : World) (answers : List Answer) : Type 0 where
+  pub state : state-of v ≡ after (reverse events ++ past)
+  pub says : (i : ℕ) (e : Event) (d : Answer) → i < length events → getD answers i d ≡ answer (getD events i e) (after (before past i events))
+  pub promised : (i : ℕ) (e : Event) (d : Answer) → i < length events → Promise (before past i events) (getD events i e) (getD answers i d)
 
-abbrev pub Ran : List ℕ → List ℕ → List Event → Result Report RunError → Type 0
-Ran cards locks events (Ok t) = Played cards locks events t
-Ran cards locks events (Err NoMemory) = Unit {0}
-Ran cards locks events (Err (Unknown at who)) = FirstUnknown (set-up cards locks) events (Some (at, who))
+pub record Played (w : World) (events : List Event) (v : World) (answers : List Answer) : Type 0 where
+  pub known : AllKnown (roster w) events (length events)
+  pub there : (h : Holder) → roster v h ≡ roster w h
+  pub count : length answers ≡ length events
+  pub history : (past : List Event) → state-of w ≡ after past → History past events v answers
+
+-- nothing was played: the world and the answers are as they were
+pub record Unplayed (w v : World) (old new : Vec Answer Global) : Type 0 where
+  pub world : v ≡ w
+  pub answers : new ≡ old
+
+abbrev pub Ran : World → List Event → Vec Answer Global → Result (Unit {0}) RunError → World → Vec Answer Global → Type 0
+Ran w events old (Ok _) v new = Played w events v (vec-items new)
+Ran w events old (Err NoRoom) v new = (vec-cap old < length events) × Unplayed w v old new
+Ran w events old (Err (Unknown at who)) v new = (length events ≤ vec-cap old) × FirstUnknown (roster w) events (Some (at, who)) × Unplayed w v old new

@@ -17,15 +17,18 @@ mod tests {
     use std::test::*;
 
     const OPENED: Answer = Answer::Decided(VisitEnd::Opened);
+
     const BARRED: Answer = Answer::Decided(VisitEnd::Refused(Fault::Barred));
 
     // Plays events among cards 1, 2, 7 and locks 5, 6, 8, and compares what came of each.
     fn plays(heap: Global, events: &[Event], wanted: &[Answer]) -> Result<(), Fail> {
-        let Ok(report) = run(heap, &[1, 2, 7], &[5, 6, 8], events) else {
+        let mut world = World::new(heap, &[1, 2, 7], &[5, 6, 8])?;
+        let mut answers = Vec::with_capacity(heap, events.len())?;
+        let Ok(()) = run(&mut world, events, &mut answers) else {
             return Err(Fail::new("not played"));
         };
-        check_eq(report.answers.len(), wanted.len())?;
-        for (answer, expected) in report.answers.iter().zip(wanted) {
+        check_eq(answers.len(), wanted.len())?;
+        for (answer, expected) in answers.iter().zip(wanted) {
             check_eq(*answer, *expected)?;
         }
         Ok(())
@@ -33,23 +36,44 @@ mod tests {
 
     // Somebody that is not set up: the place of the event, and nothing played.
     fn refuses(heap: Global, events: &[Event], place: usize, named: Holder) -> Result<(), Fail> {
-        let Err(error) = run(heap, &[1, 7], &[5], events) else {
+        let mut world = World::new(heap, &[1, 7], &[5])?;
+        let mut answers = Vec::with_capacity(heap, events.len())?;
+        let Err(error) = run(&mut world, events, &mut answers) else {
             return Err(Fail::new("played"));
         };
         let RunError::Unknown { at, who } = error else {
-            return Err(Fail::new("no memory"));
+            return Err(Fail::new("no room"));
         };
+        check_eq(world.desk().newest(), 0)?;
+        check_eq(answers.len(), 0)?;
         check_eq(at, place)?;
         check_eq(who, named)
     }
 
     fn thief(card: u16, lock: u16) -> Event {
-        Event::Adversary { card, lock, says: 0, gives: None }
+        Event::Adversary {
+            card,
+            lock,
+            says: 0,
+            gives: None,
+        }
     }
 
     #[test]
     fn nothing_happens(rt: LibcRuntime) -> Result<(), Fail> {
         plays(rt.alloc(), &[], &[])
+    }
+
+    #[test]
+    fn no_room(rt: LibcRuntime) -> Result<(), Fail> {
+        let mut world = World::new(rt.alloc(), &[7], &[])?;
+        let mut answers = Vec::new(rt.alloc());
+        let events = [Event::Bar(7), Event::AtDesk(7)];
+        check(matches!(
+            run(&mut world, &events, &mut answers),
+            Err(RunError::NoRoom)
+        ))?;
+        check_eq(world.desk().newest(), 0)
     }
 
     #[test]
@@ -71,7 +95,12 @@ mod tests {
 
     #[test]
     fn barred_twice(rt: LibcRuntime) -> Result<(), Fail> {
-        let events = [Event::Bar(7), Event::Bar(7), Event::Bar(2), Event::AtDesk(1)];
+        let events = [
+            Event::Bar(7),
+            Event::Bar(7),
+            Event::Bar(2),
+            Event::AtDesk(1),
+        ];
         let wanted = [
             Answer::Barring(0),
             Answer::Refused(Fault::BarredAlready),
@@ -84,7 +113,11 @@ mod tests {
     #[test]
     fn days_never_go_back(rt: LibcRuntime) -> Result<(), Fail> {
         let events = [Event::Day(3), Event::Day(3), Event::Day(2)];
-        let wanted = [Answer::Today, Answer::Today, Answer::Refused(Fault::OutOfRange)];
+        let wanted = [
+            Answer::Today,
+            Answer::Today,
+            Answer::Refused(Fault::OutOfRange),
+        ];
         plays(rt.alloc(), &events, &wanted)
     }
 
@@ -119,12 +152,38 @@ mod tests {
     fn adversaries(rt: LibcRuntime) -> Result<(), Fail> {
         let events = [
             Event::Bar(7),
-            Event::Adversary { card: 7, lock: 5, says: 2, gives: Some(2) },
-            Event::Adversary { card: 7, lock: 5, says: 2, gives: Some(1) },
-            Event::Adversary { card: 7, lock: 5, says: 1, gives: None },
-            Event::Adversary { card: 7, lock: 5, says: 1, gives: Some(1) },
+            Event::Adversary {
+                card: 7,
+                lock: 5,
+                says: 2,
+                gives: Some(2),
+            },
+            Event::Adversary {
+                card: 7,
+                lock: 5,
+                says: 2,
+                gives: Some(1),
+            },
+            Event::Adversary {
+                card: 7,
+                lock: 5,
+                says: 1,
+                gives: None,
+            },
+            Event::Adversary {
+                card: 7,
+                lock: 5,
+                says: 1,
+                gives: Some(1),
+            },
         ];
-        let wanted = [Answer::Barring(0), Answer::NoList, OPENED, Answer::BrokenOff, BARRED];
+        let wanted = [
+            Answer::Barring(0),
+            Answer::NoList,
+            OPENED,
+            Answer::BrokenOff,
+            BARRED,
+        ];
         plays(rt.alloc(), &events, &wanted)
     }
 }

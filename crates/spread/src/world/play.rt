@@ -10,16 +10,12 @@ ghost use Rattle.model.specs.declared.Holder.{Holder};
 ghost use Rattle.spread.specs.Roster.{missing, unless};
 ghost use Rattle.spread.specs.World.{state-of, roster, Steps, FirstUnknown, Ran};
 ghost use Rattle.model.specs.Run.{has};
-use super::Report;
 use super::RunError;
-use super::RunErrorFromAlloc;
 use super::World;
 use model::Answer;
 use model::Event;
 use model::Holder;
 use office::Desk;
-use std::alloc::AllocError;
-use std::alloc::Global;
 use visits::Card;
 use visits::Lock;
 use visits::decide;
@@ -207,20 +203,22 @@ impl World {
     }
 }
 
-// Sets a world up and plays events in order. Where an event names somebody that is not set up, nothing is played.
-pub fn run(heap: Global, cards: &[u16], locks: &[u16], events: &[Event]) -> Result<Report, RunError>
-    ensures { λ r. ⌜ Ran (now (cards .entry)) (now (locks .entry)) (now (events .entry)) r ⌝ }
+// Plays events in order, and leaves in `answers`, which has to have room, what came of each. Where an event names somebody that is not set up, nothing is played.
+pub fn run(world: &mut World, events: &[Event], answers: &mut Vec<Answer>) -> Result<(), RunError>
+    ensures { λ r. ⌜ Ran (now (world .entry)) (now (events .entry)) (now (answers .entry)) r (now (world .exit)) (now (answers .exit)) ⌝ }
 {
-    let mut world = World::new(heap, cards, locks)?;
+    if answers.capacity() < events.len() {
+        return Err(RunError::NoRoom);
+    }
     if let Some((at, who)) = world.first_unknown(events) {
         return Err(RunError::Unknown { at, who });
     }
-    let mut answers = Vec::with_capacity(heap, events.len())?;
+    answers.clear();
     for event in events {
         match world.step(*event) {
             Ok(answer) => answers.push_reserved(answer),
             Err(_) => unreachable(),
         }
     }
-    Ok(Report { world, answers })
+    Ok(())
 }

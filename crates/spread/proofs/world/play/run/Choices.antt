@@ -6,4 +6,4 @@ use Rattle.spread.proofs.world.play.run.Given as given
 
 -- so many events are played, and there is room for the other answers
 abbrev pub Inv-loop-event : given.InvT-loop-event
-Inv-loop-event l = SoFar (l .cards) (l .locks) (l .events) (l .event-index) (l .world) (vec-items (l .answers)) × (length (l .events) ≤ vec-cap (l .answers))
+Inv-loop-event l = SoFar (l .entry .world) (l .events) (l .event-index) (l .world) (vec-items (l .answers)) × (length (l .events) ≤ vec-cap (l .answers))
