@@ -19,9 +19,10 @@ use Rattle.model.specs.declared.Holder.the-variants.{Card, Lock}
 use Rattle.model.specs.Run.{State, start, step, answer, after, before}
 use Rattle.model.specs.Promise.{Promise}
 use Rattle.model.proofs.Promised.{main}
-use Rattle.spread.specs.declared.world.World.{World}
-use Rattle.spread.specs.Roster.{missing, unless}
-use Rattle.spread.specs.World.{state-of, roster, Moves, Stays, AllKnown, FirstUnknown, Played}
+use Rattle.world.specs.declared.state.World.{World}
+use Rattle.world.specs.Roster.{missing, unless}
+use Rattle.world.specs.World.{state-of, roster, Moves, Stays}
+use Rattle.spread.specs.Runs.{AllKnown, FirstUnknown, Played}
 
 -- who is missing depends only on the roster
 unless-same : (f g : Holder → Bool) (h : Holder) (n m : Option Holder) → f h ≡ g h → n ≡ m → unless f h n ≡ unless g h m

@@ -11,10 +11,10 @@ mod tests {
     use model::HolderDebug;
     use model::HolderPartialEq;
     use spread::RunError;
-    use spread::World;
     use spread::run;
     use std::alloc::Global;
     use std::test::*;
+    use world::World;
 
     const OPENED: Answer = Answer::Decided(VisitEnd::Opened);
 
