@@ -22,3 +22,7 @@ faultNumber BarredAlready = 10
 abbrev pub endNumber : VisitEnd → ℕ
 endNumber Opened = 0
 endNumber (Refused f) = faultNumber f
+
+-- a number tells the cause: no two causes share one, and none has that of an opened door
+abbrev pub NumbersTell : Type 0
+NumbersTell = ((f g : Fault) → faultNumber f ≡ faultNumber g → f ≡ g) × ((f : Fault) → (1 ≤ faultNumber f) × (faultNumber f ≤ 10))

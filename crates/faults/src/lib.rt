@@ -1,6 +1,6 @@
 // Why something is refused, and how a visit ends.
 ghost use mathlib.Core.Path.{_≡_};
-ghost use Rattle.faults.specs.Numbers.{faultNumber};
+ghost use Rattle.faults.specs.Numbers.{faultNumber, NumbersTell};
 
 // The ten causes of a refusal. What is refused changes nothing. `faultNumber` gives each its number in print and on the wire.
 #[derive(Clone, Copy, PartialEq, Eq, Debug)]
@@ -41,4 +41,11 @@ impl Fault {
 pub enum VisitEnd {
     Opened,
     Refused(Fault),
+}
+
+// The theorem that a number tells the cause.
+pub fn numbers_tell() -> u8
+    ensures { λ _. ⌜ NumbersTell ⌝ }
+{
+    0
 }
