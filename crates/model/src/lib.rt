@@ -17,7 +17,7 @@ pub enum Holder {
 
 // The desk's day moves on; the desk bars a card; a card is at the desk and is given the newest list; an honest card is at a lock; an adversary is at a lock with a card, says that it has a list of some
 // number, gives a list that was once signed or none, and takes nothing.
-#[derive(Clone, Copy, PartialEq, Eq, Debug)]
+#[derive(Clone, Copy)]
 pub enum Event {
     Day(u32),
     Bar(u16),

@@ -6,13 +6,13 @@ use faults::VisitEnd;
 use lists::is_listed;
 
 // A card's memory: the number of the list that it carries, 0 for none.
-#[derive(Clone, Copy, PartialEq, Eq, Debug)]
+#[derive(Clone, Copy)]
 pub struct Card {
     list: u32,
 }
 
 // A lock's memory: the number of the list that it decides by, 0 for none.
-#[derive(Clone, Copy, PartialEq, Eq, Debug)]
+#[derive(Clone, Copy)]
 pub struct Lock {
     list: u32,
 }

@@ -1,0 +1,6 @@
+pub mod Lines
+pub mod Words
+pub mod Setup
+pub mod Scripts
+pub mod Phrases
+pub mod Texts
