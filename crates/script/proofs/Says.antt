@@ -4,6 +4,7 @@ use mathlib.Core.Bool.{Bool, true, false, cond, _||_}
 use mathlib.Core.List.{List, [], _∷_, _++_, map, append-nil, append-assoc}
 use mathlib.Core.Logic.{_⊎_, inl, inr}
 use Prim.Native.Nat.{ℕ, _+_, _<_, _≤_}
+use native.Mathlib.Nat.{add-zero}
 use native.Mathlib.Omega.{arith}
 use lib.Dec.{eqb}
 use lib.ListN.{length, length-append}
@@ -14,20 +15,21 @@ use Rattle.std.specs.declared.result.Result.the-variants.{Ok, Err}
 use Rattle.std.specs.Of.Vec.{vec-items}
 use Rattle.std.specs.Vec.{listOf, Every}
 use Rattle.std.proofs.shelf.Tests.{or-cases, or-left, or-right, eqb-true, eq-eqb, cases-bool, cond-true, cond-false, both-ways}
-use Rattle.script.specs.declared.command.Command.{Command}
-use Rattle.script.specs.declared.command.Command.the-variants.{Lock, Card, Day, Bar, Desk, Visit, Thief}
-use Rattle.script.specs.declared.command.Wrong.{Wrong}
-use Rattle.script.specs.declared.command.Wrong.the-variants.{NoNewline, Empty, NoSuchCard, NoSuchLock, SetUpAlready}
-use Rattle.script.specs.declared.whole.LineFault.{LineFault}
-use Rattle.script.specs.declared.whole.Script.{Script}
-use Rattle.script.specs.declared.whole.ScriptError.{ScriptError}
-use Rattle.script.specs.declared.whole.ScriptError.the-variants.{Faulty, NoMemory}
-use Rattle.script.specs.Lines.{pieces, bareOf}
-use Rattle.script.specs.Words.{Lawful, written, wordsOf, parsed, Read}
-use Rattle.script.specs.Setup.{cardOf, lockOf, cardsOf, locksOf, has, isNew, knownCard, knownLock, knownBoth, whenOk, checked, commandIn, commandOn, Above, Ready, InOrder}
-use Rattle.script.specs.Scripts.{at, atEnd, scriptFrom, scriptOf, Is, filled, Says, ScriptLaw}
-use Rattle.script.proofs.Cuts.{pieces-some}
-use Rattle.script.proofs.Spelt.{read-law, read-written}
+use Rattle.commands.specs.declared.command.Command.{Command}
+use Rattle.commands.specs.declared.command.Command.the-variants.{Lock, Card, Day, Bar, Desk, Visit, Thief}
+use Rattle.commands.specs.declared.command.Wrong.{Wrong}
+use Rattle.commands.specs.declared.command.Wrong.the-variants.{NoNewline, Empty, NoSuchCard, NoSuchLock, SetUpAlready}
+use Rattle.script.specs.declared.LineFault.{LineFault}
+use Rattle.script.specs.declared.Script.{Script}
+use Rattle.script.specs.declared.ScriptError.{ScriptError}
+use Rattle.script.specs.declared.ScriptError.the-variants.{Faulty, NoMemory}
+use Rattle.commands.specs.Lines.{pieces, bareOf}
+use Rattle.commands.specs.Words.{Lawful, written, wordsOf, parsed, Read}
+use Rattle.commands.specs.Plays.{cardOf, lockOf}
+use Rattle.script.specs.Setup.{cardsOf, locksOf, has, isNew, knownCard, knownLock, knownBoth, whenOk, checked, commandIn, commandOn, Above, Ready, InOrder}
+use Rattle.script.specs.Scripts.{faultAt, atEnd, scriptFrom, scriptOf, Is, filled, Sound, Says, NoCommand, Stops, FirstFault, ScriptLaw}
+use Rattle.commands.proofs.Cuts.{pieces-some}
+use Rattle.commands.proofs.Spelt.{read-law, read-written}
 use Rattle.script.proofs.Turns.{go-on, line-then}
 
 never : {X : Type 0} → _≡_ {A = ℕ} 0 1 → X
@@ -281,11 +283,100 @@ read-all n [] above [] same law ready some = ends n above (omega (arith, ap leng
 read-all n [] above (k ∷ ks) same law ready some = let z : _≡_ {A = ℕ} 0 1 = cc in never z
 read-all n (l ∷ rows) above ks same law ready some = one-line n above l rows ks (bareOf l) refl same law ready some (read-all (n + 1) rows)
 
+-- ---- a fault is the first
+
+pub record Broken (n : ℕ) (above : List Command) (ls : List (List ℕ)) (f : LineFault) : Type 0 where
+  pub rows : List (List ℕ)
+  pub rest : List (List ℕ)
+  pub ks : List Command
+  pub whole : ls ≡ rows ++ rest
+  pub same : filled (map bareOf rows) ≡ map written ks
+  pub lawful : Every Lawful ks
+  pub ready : InOrder above ks
+  pub stops : Stops (n + length rows) (above ++ ks) rest f
+
+here : (n : ℕ) (above : List Command) (ls : List (List ℕ)) (f : LineFault) → Stops n above ls f → Broken n above ls f
+here n above ls f stops = record {
+  rows = [];
+  rest = ls;
+  ks = [];
+  whole = refl;
+  same = refl;
+  lawful = tt;
+  ready = tt;
+  stops = subst (λ m. Stops m (above ++ []) ls f) (sym (add-zero n)) (subst (λ ks. Stops n ks ls f) (sym (append-nil above)) stops);
+}
+
+unwritten : (ks : List Command) (t : List ℕ) (w : Wrong) → commandIn (cardsOf ks) (locksOf ks) t ≡ Err w → (k : Command) → Lawful k → Ready ks k → written k ≡ t → ⊥
+unwritten ks [] w e k law ready same = let z : _≡_ {A = ℕ} 0 1 = cc in omega arith
+unwritten ks (b ∷ bs) w e k law ready same =
+    let heard = hear (cardsOf ks) (locksOf ks) (b ∷ bs) k (λ n. let y : _≡_ {A = ℕ} 0 1 = cc in omega arith) law same (ready-checked ks k ready) in
+    let z : _≡_ {A = ℕ} 0 1 = cc in
+    omega arith
+
+unheard : (ks : List Command) (t : List ℕ) (w : Wrong) → commandIn (cardsOf ks) (locksOf ks) t ≡ Err w → NoCommand ks t
+unheard ks t w e = (
+  λ none. let z : _≡_ {A = ℕ} 0 1 = cc (ap (commandIn (cardsOf ks) (locksOf ks)) none) in omega arith,
+  λ k law ready same. unwritten ks t w e k law ready same,
+)
+
+line-broken : (n : ℕ) (above : List Command) (l m : List ℕ) (ls : List (List ℕ)) (f : LineFault) (r : Heard) → commandOn (cardsOf above) (locksOf above) l ≡ r → go-on r n above (m ∷ ls) ≡ Err f → ((more : List Command) → scriptFrom (n + 1) more (m ∷ ls) ≡ Err f → Broken (n + 1) more (m ∷ ls) f) → Broken n above (l ∷ m ∷ ls) f
+line-broken n above l m ls f (Err w) is e go =
+    let same : faultAt n w ≡ f = cc in here n above (l ∷ m ∷ ls) f (sym (ap (λ x. x .line) same), is ∙ ap (λ x. Err (x .wrong)) same, unheard above (bareOf l) w is)
+line-broken n above l m ls f (Ok None) is e go =
+    let h = go above (ap (λ ks. scriptFrom (n + 1) ks (m ∷ ls)) (sym (append-nil above)) ∙ e) in
+    let bare = said-none (cardsOf above) (locksOf above) (bareOf l) is in
+    let next : n + 1 + length (h .rows) ≡ n + length (l ∷ h .rows) = omega arith in
+    record {
+      rows = l ∷ h .rows;
+      rest = h .rest;
+      ks = h .ks;
+      whole = ap (λ x. l ∷ x) (h .whole);
+      same = ap (λ t. filled (t ∷ map bareOf (h .rows))) bare ∙ h .same;
+      lawful = h .lawful;
+      ready = h .ready;
+      stops = subst (λ i. Stops i (above ++ h .ks) (h .rest) f) next (h .stops);
+    }
+line-broken n above l m ls f (Ok (Some k)) is e go =
+    let h = go (above ++ k ∷ []) e in
+    let said = said-some (cardsOf above) (locksOf above) (bareOf l) k is in
+    let next : n + 1 + length (h .rows) ≡ n + length (l ∷ h .rows) = omega arith in
+    record {
+      rows = l ∷ h .rows;
+      rest = h .rest;
+      ks = k ∷ h .ks;
+      whole = ap (λ x. l ∷ x) (h .whole);
+      same = filled-some (bareOf l) (map bareOf (h .rows)) (said .filled) ∙ (λ i. sym (said .same) i ∷ h .same i);
+      lawful = (said .lawful, h .lawful);
+      ready = (checked-ready above k (said .passed), h .ready);
+      stops = subst (λ i. Stops i (above ++ k ∷ h .ks) (h .rest) f) next (subst (λ ks. Stops (n + 1 + length (h .rows)) ks (h .rest) f) (append-assoc above (k ∷ []) (h .ks)) (h .stops));
+    }
+
+broken : (n : ℕ) (above : List Command) (ls : List (List ℕ)) (f : LineFault) → scriptFrom n above ls ≡ Err f → (ls ≡ [] → ⊥) → Broken n above ls f
+unfolding scriptFrom
+broken n above [] f e some = absurd (some refl)
+broken n above (l ∷ []) f e some = here n above (l ∷ []) f e
+broken n above (l ∷ m ∷ ls) f e some =
+    line-broken n above l m ls f (commandOn (cardsOf above) (locksOf above) l) refl e (λ more g. broken (n + 1) more (m ∷ ls) f g (λ z. let y : _≡_ {A = ℕ} 0 1 = cc in omega arith))
+
+first-fault : (text : List ℕ) (f : LineFault) → scriptOf text ≡ Err f → FirstFault text f
+first-fault text f e =
+    let b = broken 1 [] (pieces 10 text) f e (pieces-some 10 text) in
+    record {
+      rows = b .rows;
+      rest = b .rest;
+      commands = b .ks;
+      whole = b .whole;
+      sound = record { same = b .same; lawful = b .lawful; ready = b .ready };
+      stops = b .stops;
+    }
+
 -- ---- the law
 
 says-none : (text : List ℕ) (f : LineFault) → scriptOf text ≡ Err f → (ks : List Command) → Says text ks → ⊥
 says-none text f e ks says =
-    let read : scriptOf text ≡ Ok ks = ap (scriptFrom 1 []) (says .whole) ∙ read-all 1 (says .rows) [] ks (says .same) (says .lawful) (says .ready) (says .some) in
+    let sound = says .sound in
+    let read : scriptOf text ≡ Ok ks = ap (scriptFrom 1 []) (says .whole) ∙ read-all 1 (says .rows) [] ks (sound .same) (sound .lawful) (sound .ready) (says .some) in
     let z : _≡_ {A = ℕ} 0 1 = cc in
     omega arith
 
@@ -295,10 +386,12 @@ script-law text (Ok s) h =
     record {
       rows = f .rows;
       whole = f .whole;
-      same = f .same ∙ ap (map written) (sym (f .sum));
-      lawful = subst (Every Lawful) (sym (f .sum)) (f .lawful);
-      ready = subst (InOrder []) (sym (f .sum)) (f .ready);
+      sound = record {
+        same = f .same ∙ ap (map written) (sym (f .sum));
+        lawful = subst (Every Lawful) (sym (f .sum)) (f .lawful);
+        ready = subst (InOrder []) (sym (f .sum)) (f .ready);
+      };
       some = f .some;
     }
-script-law text (Err (Faulty f)) h = says-none text f h
+script-law text (Err (Faulty f)) h = (first-fault text f h, says-none text f h)
 script-law text (Err NoMemory) h = tt

@@ -15,15 +15,16 @@ use Rattle.std.specs.Vec.{listOf}
 use Rattle.std.proofs.shelf.Lists.{joined-more}
 use Rattle.std.proofs.shelf.Tests.{eqb-true}
 use Rattle.std.proofs.shelf.Ways.{tells}
-use Rattle.script.specs.declared.command.Command.{Command}
-use Rattle.script.specs.declared.command.Wrong.{Wrong}
-use Rattle.script.specs.declared.command.Wrong.the-variants.{NoNewline, Empty}
-use Rattle.script.specs.declared.whole.LineFault.{LineFault}
-use Rattle.script.specs.declared.whole.Script.{Script}
-use Rattle.script.specs.Lines.{pieces}
-use Rattle.script.specs.Setup.{cardOf, lockOf, eventOf, cardsOf, locksOf, eventsOf, commandOn}
-use Rattle.script.specs.Scripts.{at, atEnd, scriptFrom, scriptOf, Added, Lists}
-use Rattle.script.proofs.Cuts.{pieces-some}
+use Rattle.commands.specs.declared.command.Command.{Command}
+use Rattle.commands.specs.declared.command.Wrong.{Wrong}
+use Rattle.commands.specs.declared.command.Wrong.the-variants.{NoNewline, Empty}
+use Rattle.script.specs.declared.LineFault.{LineFault}
+use Rattle.script.specs.declared.Script.{Script}
+use Rattle.commands.specs.Lines.{pieces}
+use Rattle.commands.specs.Plays.{cardOf, lockOf, eventOf}
+use Rattle.script.specs.Setup.{cardsOf, locksOf, eventsOf, commandOn}
+use Rattle.script.specs.Scripts.{faultAt, atEnd, scriptFrom, scriptOf, Added, Lists}
+use Rattle.commands.proofs.Cuts.{pieces-some}
 
 -- after n lines, rest is left of the text
 pub record SoFar (text : List ℕ) (n : ℕ) (s : Script) (rest : List ℕ) : Type 0 where
@@ -33,7 +34,7 @@ pub record SoFar (text : List ℕ) (n : ℕ) (s : Script) (rest : List ℕ) : Ty
 
 -- a line that is followed by another piece
 abbrev pub go-on : (r : Result (Option Command) Wrong) (n : ℕ) (ks : List Command) (ls : List (List ℕ)) → Result (List Command) LineFault
-go-on r n ks ls = elim r [ Ok o ↦ scriptFrom (n + 1) (ks ++ listOf o) ls | Err w ↦ Err (at n w) ]
+go-on r n ks ls = elim r [ Ok o ↦ scriptFrom (n + 1) (ks ++ listOf o) ls | Err w ↦ Err (faultAt n w) ]
 
 pub line-then : (n : ℕ) (ks : List Command) (l : List ℕ) (ls : List (List ℕ)) → (ls ≡ [] → ⊥) → scriptFrom n ks (l ∷ ls) ≡ go-on (commandOn (cardsOf ks) (locksOf ks) l) n ks ls
 unfolding scriptFrom
@@ -51,7 +52,7 @@ begun text s a b c d = record {
 abbrev pub Next : List ℕ → List ℕ → List ℕ → Type 0
 Next rest l after = (pieces 10 rest ≡ l ∷ pieces 10 after) × (length after < length rest)
 
-cut-off : (n : ℕ) (ks : List Command) (l : List ℕ) → 0 < length l → scriptFrom n ks (l ∷ []) ≡ Err (at n NoNewline)
+cut-off : (n : ℕ) (ks : List Command) (l : List ℕ) → 0 < length l → scriptFrom n ks (l ∷ []) ≡ Err (faultAt n NoNewline)
 unfolding scriptFrom
 cut-off n ks [] some = absurd (omega arith)
 cut-off n [] (b ∷ bs) some = refl
@@ -63,7 +64,7 @@ finished n [] l none some = absurd (omega arith)
 finished n (k ∷ ks) [] none some = refl
 finished n (k ∷ ks) (b ∷ bs) none some = absurd (omega arith)
 
-unfilled : (n : ℕ) (ks : List Command) (l : List ℕ) → length l ≡ 0 → length ks ≡ 0 → scriptFrom n ks (pieces 10 l) ≡ Err (at 1 Empty)
+unfilled : (n : ℕ) (ks : List Command) (l : List ℕ) → length l ≡ 0 → length ks ≡ 0 → scriptFrom n ks (pieces 10 l) ≡ Err (faultAt 1 Empty)
 unfolding scriptFrom pieces
 unfilled n [] [] none zeros = refl
 unfilled n [] (b ∷ bs) none zeros = absurd (omega arith)
@@ -75,7 +76,7 @@ module _ {text : List ℕ} {n : ℕ} {s : Script} {rest : List ℕ} (h : SoFar t
       sym (h .same) ∙ ap (scriptFrom (n + 1) (vec-items (s .commands))) (next .0) ∙ line-then (n + 1) _ l (pieces 10 after) (pieces-some 10 after)
       ∙ ap (λ x. go-on x (n + 1) (vec-items (s .commands)) (pieces 10 after)) (sym (e ∙ (λ i. commandOn (h .lists .cards i) (h .lists .locks i) l)))
 
-  pub wrong-line : (l after : List ℕ) (w : Wrong) (r : Result (Option Command) Wrong) → Next rest l after → r ≡ commandOn (vec-items (s .cards)) (vec-items (s .locks)) l → r ≡ Err w → scriptOf text ≡ Err (at (n + 1) w)
+  pub wrong-line : (l after : List ℕ) (w : Wrong) (r : Result (Option Command) Wrong) → Next rest l after → r ≡ commandOn (vec-items (s .cards)) (vec-items (s .locks)) l → r ≡ Err w → scriptOf text ≡ Err (faultAt (n + 1) w)
   wrong-line l after w r next e is = turn l after r next e ∙ ap (λ x. go-on x (n + 1) (vec-items (s .commands)) (pieces 10 after)) is
 
   pub no-command : (l after : List ℕ) (r : Result (Option Command) Wrong) → Next rest l after → r ≡ commandOn (vec-items (s .cards)) (vec-items (s .locks)) l → r ≡ Ok None → SoFar text (n + 1) s after
@@ -97,14 +98,14 @@ module _ {text : List ℕ} {n : ℕ} {s : Script} {rest : List ℕ} (h : SoFar t
     far = omega (arith, h .far, next .1);
   }
 
-  pub no-newline : 0 < length rest → pieces 10 rest ≡ rest ∷ [] → scriptOf text ≡ Err (at (n + 1) NoNewline)
+  pub no-newline : 0 < length rest → pieces 10 rest ≡ rest ∷ [] → scriptOf text ≡ Err (faultAt (n + 1) NoNewline)
   unfolding scriptFrom
   no-newline some last = sym (h .same) ∙ ap (scriptFrom (n + 1) (vec-items (s .commands))) last ∙ cut-off (n + 1) (vec-items (s .commands)) rest some
 
   pub all-read : length rest ≡ 0 → 0 < length (vec-items (s .commands)) → scriptOf text ≡ Ok (vec-items (s .commands))
   all-read none some = sym (h .same) ∙ finished (n + 1) (vec-items (s .commands)) rest none some
 
-  pub nothing-read : length rest ≡ 0 → length (vec-items (s .commands)) ≡ 0 → scriptOf text ≡ Err (at 1 Empty)
+  pub nothing-read : length rest ≡ 0 → length (vec-items (s .commands)) ≡ 0 → scriptOf text ≡ Err (faultAt 1 Empty)
   nothing-read none zeros = sym (h .same) ∙ unfilled (n + 1) (vec-items (s .commands)) rest none zeros
 
 -- what a test for emptiness said

@@ -1,6 +1,3 @@
-pub mod Lines
-pub mod Words
 pub mod Setup
 pub mod Scripts
-pub mod Phrases
-pub mod Texts
+pub mod Shown

@@ -3,32 +3,32 @@ use mathlib.Core.Path.{_≡_}
 use mathlib.Core.List.{List, [], _∷_, _++_, map}
 use Prim.Native.Nat.{ℕ, _+_, _<_}
 use lib.ListN.{length}
-use Rattle.std.specs.declared.option.Option.{Option}
 use Rattle.std.specs.declared.result.Result.{Result}
 use Rattle.std.specs.declared.result.Result.the-variants.{Ok, Err}
 use Rattle.std.specs.Of.Vec.{vec-items}
 use Rattle.std.specs.Vec.{listOf, Every}
-use Rattle.script.specs.declared.command.Command.{Command}
-use Rattle.script.specs.declared.command.Wrong.{Wrong}
-use Rattle.script.specs.declared.command.Wrong.the-variants.{NoNewline, Empty}
-use Rattle.script.specs.declared.whole.LineFault.{LineFault}
-use Rattle.script.specs.declared.whole.Script.{Script}
-use Rattle.script.specs.declared.whole.ScriptError.{ScriptError}
-use Rattle.script.specs.declared.whole.ScriptError.the-variants.{Faulty, NoMemory}
-use Rattle.script.specs.Lines.{pieces, bareOf}
-use Rattle.script.specs.Setup.{cardOf, lockOf, eventOf, cardsOf, locksOf, eventsOf, commandOn, InOrder}
-use Rattle.script.specs.Words.{Lawful, written}
+use Rattle.commands.specs.declared.command.Command.{Command}
+use Rattle.commands.specs.declared.command.Wrong.{Wrong}
+use Rattle.commands.specs.declared.command.Wrong.the-variants.{NoNewline, Empty}
+use Rattle.script.specs.declared.LineFault.{LineFault}
+use Rattle.script.specs.declared.Script.{Script}
+use Rattle.script.specs.declared.ScriptError.{ScriptError}
+use Rattle.script.specs.declared.ScriptError.the-variants.{Faulty, NoMemory}
+use Rattle.commands.specs.Lines.{pieces, bareOf}
+use Rattle.commands.specs.Plays.{cardOf, lockOf, eventOf}
+use Rattle.script.specs.Setup.{cardsOf, locksOf, eventsOf, commandOn, Ready, InOrder}
+use Rattle.commands.specs.Words.{Lawful, written}
 
 -- ---- what is read, line by line
 
-abbrev pub at : ℕ → Wrong → LineFault
-at n w = record { line = n; wrong = w }
+abbrev pub faultAt : ℕ → Wrong → LineFault
+faultAt n w = record { line = n; wrong = w }
 
 -- what stands after the last newline has to be nothing, and a script has to have a command
 abbrev pub atEnd : ℕ → List Command → List ℕ → Result (List Command) LineFault
-atEnd n [] [] = Err (at 1 Empty)
+atEnd n [] [] = Err (faultAt 1 Empty)
 atEnd n (k ∷ ks) [] = Ok (k ∷ ks)
-atEnd n ks (b ∷ bs) = Err (at n NoNewline)
+atEnd n ks (b ∷ bs) = Err (faultAt n NoNewline)
 
 -- from the line n on, after the commands ks
 unfoldable pub scriptFrom : ℕ → List Command → List (List ℕ) → Result (List Command) LineFault
@@ -37,7 +37,7 @@ scriptFrom n ks (l ∷ []) = atEnd n ks l
 scriptFrom n ks (l ∷ m ∷ ls) =
     elim (commandOn (cardsOf ks) (locksOf ks) l) [
       | Ok o ↦ scriptFrom (n + 1) (ks ++ listOf o) (m ∷ ls)
-      | Err w ↦ Err (at n w)
+      | Err w ↦ Err (faultAt n w)
     ]
 
 abbrev pub scriptOf : List ℕ → Result (List Command) LineFault
@@ -72,17 +72,39 @@ filled [] = []
 filled ([] ∷ ls) = filled ls
 filled ((b ∷ bs) ∷ ls) = (b ∷ bs) ∷ filled ls
 
-pub record Says (text : List ℕ) (ks : List Command) : Type 0 where
-  pub rows : List (List ℕ)
-  -- each line ends with a newline
-  pub whole : pieces 10 text ≡ rows ++ [] ∷ []
-  -- what the lines say is the commands as they are written
+-- the lines, each with its newline, say the commands ks as they are written, each lawful and ready after those above it
+pub record Sound (rows : List (List ℕ)) (ks : List Command) : Type 0 where
   pub same : filled (map bareOf rows) ≡ map written ks
   pub lawful : Every Lawful ks
   pub ready : InOrder [] ks
+
+-- the whole text does: nothing stands after its last newline, and there is a command
+pub record Says (text : List ℕ) (ks : List Command) : Type 0 where
+  pub rows : List (List ℕ)
+  pub whole : pieces 10 text ≡ rows ++ [] ∷ []
+  pub sound : Sound rows ks
   pub some : 0 < length ks
+
+-- a line says something, and it is no command that may stand after the commands ks
+abbrev pub NoCommand : List Command → List ℕ → Type 0
+NoCommand ks t = (t ≡ [] → ⊥) × ((k : Command) → Lawful k → Ready ks k → written k ≡ t → ⊥)
+
+-- what is wrong after the commands ks, with the rest of the text from its n-th line on
+abbrev pub Stops : ℕ → List Command → List (List ℕ) → LineFault → Type 0
+Stops n ks [] f = ⊥
+Stops n ks (l ∷ []) f = atEnd n ks l ≡ Err f
+Stops n ks (l ∷ m ∷ ls) f = (f .line ≡ n) × (commandOn (cardsOf ks) (locksOf ks) l ≡ Err (f .wrong)) × NoCommand ks (bareOf l)
+
+-- the lines above the fault are in order
+pub record FirstFault (text : List ℕ) (f : LineFault) : Type 0 where
+  pub rows : List (List ℕ)
+  pub rest : List (List ℕ)
+  pub commands : List Command
+  pub whole : pieces 10 text ≡ rows ++ rest
+  pub sound : Sound rows commands
+  pub stops : Stops (1 + length rows) commands rest f
 
 abbrev pub ScriptLaw : List ℕ → Result Script ScriptError → Type 0
 ScriptLaw text (Ok s) = Says text (vec-items (s .commands))
-ScriptLaw text (Err (Faulty f)) = (ks : List Command) → Says text ks → ⊥
+ScriptLaw text (Err (Faulty f)) = FirstFault text f × ((ks : List Command) → Says text ks → ⊥)
 ScriptLaw text (Err NoMemory) = Unit {0}

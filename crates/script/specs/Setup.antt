@@ -1,4 +1,4 @@
--- What a command sets up, names and plays, and when a command may stand on a line. Assumes nothing.
+-- What commands set up, and when a command may stand on a line. Assumes nothing.
 use mathlib.Core.Path.{_≡_}
 use mathlib.Core.Bool.{Bool, true, false, cond, _||_}
 use mathlib.Core.List.{List, [], _∷_, _++_}
@@ -10,46 +10,17 @@ use Rattle.std.specs.declared.option.Option.the-variants.{None, Some}
 use Rattle.std.specs.declared.result.Result.{Result}
 use Rattle.std.specs.declared.result.Result.the-variants.{Ok, Err}
 use Rattle.std.specs.Joined.{joined}
-use Rattle.std.specs.Options.{valueOr}
 use Rattle.std.specs.Vec.{listOf}
 use Rattle.model.specs.declared.Event.{Event}
-use Rattle.model.specs.declared.Event.the-variants.{Day as OnDay, Bar as BarCard, AtDesk, Visit as HonestVisit, Adversary}
-use Rattle.script.specs.declared.command.Command.{Command}
-use Rattle.script.specs.declared.command.Command.the-variants.{Lock, Card, Day, Bar, Desk, Visit, Thief}
-use Rattle.script.specs.declared.command.Wrong.{Wrong}
-use Rattle.script.specs.declared.command.Wrong.the-variants.{NoSuchCard, NoSuchLock, SetUpAlready}
-use Rattle.script.specs.Lines.{bareOf}
-use Rattle.script.specs.Words.{wordsOf, parsed}
+use Rattle.commands.specs.declared.command.Command.{Command}
+use Rattle.commands.specs.declared.command.Command.the-variants.{Lock, Card, Day, Bar, Desk, Visit, Thief}
+use Rattle.commands.specs.declared.command.Wrong.{Wrong}
+use Rattle.commands.specs.declared.command.Wrong.the-variants.{NoSuchCard, NoSuchLock, SetUpAlready}
+use Rattle.commands.specs.Plays.{cardOf, lockOf, eventOf}
+use Rattle.commands.specs.Lines.{bareOf}
+use Rattle.commands.specs.Words.{wordsOf, parsed}
 
--- ---- the card or the lock that a command sets up, and the event that it plays
-
-abbrev pub cardOf : Command → Option ℕ
-cardOf (Lock l) = None
-cardOf (Card c) = Some c
-cardOf (Day d) = None
-cardOf (Bar c) = None
-cardOf (Desk c) = None
-cardOf (Visit c l) = None
-cardOf (Thief c l s g) = None
-
-abbrev pub lockOf : Command → Option ℕ
-lockOf (Lock l) = Some l
-lockOf (Card c) = None
-lockOf (Day d) = None
-lockOf (Bar c) = None
-lockOf (Desk c) = None
-lockOf (Visit c l) = None
-lockOf (Thief c l s g) = None
-
--- a thief that says nothing of a list says 0
-abbrev pub eventOf : Command → Option Event
-eventOf (Lock l) = None
-eventOf (Card c) = None
-eventOf (Day d) = Some (OnDay d)
-eventOf (Bar c) = Some (BarCard c)
-eventOf (Desk c) = Some (AtDesk c)
-eventOf (Visit c l) = Some (HonestVisit c l)
-eventOf (Thief c l s g) = Some (Adversary c l (valueOr s 0) g)
+-- ---- the cards and the locks that commands set up, and the events that they play, in order
 
 abbrev pub cardsOf : List Command → List ℕ
 cardsOf ks = joined (λ k. listOf (cardOf k)) ks

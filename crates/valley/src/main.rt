@@ -1,11 +1,9 @@
 // Plays a script of barrings and visits, and prints what came of each line.
+use commands::CommandDisplay;
 use model::Answer;
-use script::texts::CommandDisplay;
-use script::texts::ScriptErrorDisplay;
-use script::texts::lock_line;
-use script::texts::outcome;
-use script::whole::Script;
-use script::whole::read;
+use script::Script;
+use script::ScriptErrorDisplay;
+use script::read;
 use spread::run;
 use std::alloc::AllocError;
 use std::env;
@@ -15,6 +13,8 @@ use std::io;
 use std::io::BufWriter;
 use std::io::Read;
 use std::io::Write;
+use texts::lock_line;
+use texts::outcome;
 use world::World;
 
 const HELP: &str = "\

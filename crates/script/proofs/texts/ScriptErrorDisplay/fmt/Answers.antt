@@ -1,4 +1,0 @@
-use Rattle.script.proofs.texts.ScriptErrorDisplay.fmt.Needs as need
-
-pub returns-in-NoMemory : need.returns-in-NoMemory
-returns-in-NoMemory g c = rw (c .in-NoMemory .is) (c .write-in-NoMemory .ensures .shows)
