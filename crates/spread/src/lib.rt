@@ -1,6 +1,10 @@
 // Runs of events, and what is promised of them.
-ghost use Rattle.spread.specs.Runs.{FirstUnknown, Ran};
+ghost use mathlib.Core.Path.{_≡_};
+ghost use Rattle.std.specs.declared.option.Option.the-variants.{None};
+ghost use Rattle.model.specs.declared.Holder.{Holder};
+ghost use Rattle.world.specs.Roster.{missing, unless};
 ghost use Rattle.world.specs.World.{roster};
+ghost use Rattle.spread.specs.Runs.{FirstUnknown, Ran};
 use model::Answer;
 use model::Event;
 use model::Holder;
@@ -13,12 +17,51 @@ pub enum RunError {
     Unknown { at: usize, who: Holder },
 }
 
+fn unknown_card(world: &World, card: u16) -> Option<Holder>
+    ensures { λ r. ⌜ r ≡ unless (roster (now (world .entry))) (Holder.Card card) None ⌝ }
+{
+    match world.card(card) {
+        Some(_) => None,
+        None => Some(Holder::Card(card)),
+    }
+}
+
+fn unknown_pair(world: &World, card: u16, lock: u16) -> Option<Holder>
+    ensures { λ r. ⌜ r ≡ unless (roster (now (world .entry))) (Holder.Card card) (unless (roster (now (world .entry))) (Holder.Lock lock) None) ⌝ }
+{
+    let Some(_) = world.card(card) else {
+        return Some(Holder::Card(card));
+    };
+    match world.lock(lock) {
+        Some(_) => None,
+        None => Some(Holder::Lock(lock)),
+    }
+}
+
+// The first of an event's card and lock that is not set up.
+fn unknown_in(world: &World, event: Event) -> Option<Holder>
+    ensures { λ r. ⌜ r ≡ missing (roster (now (world .entry))) event ⌝ }
+{
+    match event {
+        Event::Day(_) => None,
+        Event::Bar(card) => unknown_card(world, card),
+        Event::AtDesk(card) => unknown_card(world, card),
+        Event::Visit { card, lock } => unknown_pair(world, card, lock),
+        Event::Adversary {
+            card,
+            lock,
+            says: _,
+            gives: _,
+        } => unknown_pair(world, card, lock),
+    }
+}
+
 // The place of the first event that names somebody unknown, and who it is.
 pub fn first_unknown(world: &World, events: &[Event]) -> Option<(usize, Holder)>
     ensures { λ r. ⌜ FirstUnknown (roster (now (world .entry))) (now (events .entry)) r ⌝ }
 {
     for (at, event) in events.iter().enumerate() {
-        if let Some(who) = world.unknown_in(*event) {
+        if let Some(who) = unknown_in(world, *event) {
             return Some((at, who));
         }
     }

@@ -9,6 +9,10 @@ use Rattle.std.specs.Written.{decimal}
 use Rattle.faults.specs.Numbers.{faultNumber}
 use Rattle.faults.specs.declared.VisitEnd.{VisitEnd}
 use Rattle.faults.specs.declared.VisitEnd.the-variants.{Opened, Refused as TurnedAway}
+use Rattle.commands.specs.Plays.{eventOf}
+use Rattle.commands.specs.Words.{written}
+use Rattle.commands.specs.declared.command.Command.{Command}
+use Rattle.model.specs.declared.Event.{Event}
 use Rattle.model.specs.declared.Answer.{Answer}
 use Rattle.model.specs.declared.Answer.the-variants.{Today, Barring, Given, Refused, Decided, BrokenOff, NoList}
 
@@ -27,6 +31,25 @@ outcomeText (Some (Decided Opened)) = codes "opened"
 outcomeText (Some (Decided (TurnedAway f))) = codes "turned away " ++ decimal (faultNumber f)
 outcomeText (Some BrokenOff) = codes "broken off"
 outcomeText (Some NoList) = codes "no list"
+
+-- the answer to a command that plays an event is the next one, and set-up has none
+abbrev pub answered : Option Event → List Answer → Option Answer
+answered None xs = None
+answered (Some e) [] = None
+answered (Some e) (a ∷ xs) = Some a
+
+abbrev pub unanswered : Option Event → List Answer → List Answer
+unanswered None xs = xs
+unanswered (Some e) [] = []
+unanswered (Some e) (a ∷ xs) = xs
+
+-- a line for each command: as it is written, and what came of it
+abbrev pub lineText : Command → Option Answer → List ℕ
+lineText k a = written k ++ (codes ": " ++ (outcomeText a ++ codes "\n"))
+
+unfoldable pub reportText : List Command → List Answer → List ℕ
+reportText [] xs = []
+reportText (k ∷ ks) xs = lineText k (answered (eventOf k) xs) ++ reportText ks (unanswered (eventOf k) xs)
 
 abbrev pub one : ℕ → List ℕ
 one c = codes " " ++ decimal c

@@ -3,7 +3,10 @@ ghost use mathlib.Core.Path.{_≡_};
 ghost use mathlib.Core.List.{_++_};
 ghost use Rattle.std.specs.Of.String.{string-bytes};
 ghost use Rattle.std.specs.Vec.{made};
-ghost use Rattle.texts.specs.Texts.{numberText, outcomeText, barsText, lockText};
+ghost use Rattle.texts.specs.Texts.{numberText, outcomeText, answered, unanswered, reportText, barsText, lockText};
+ghost use Rattle.commands.specs.Plays.{eventOf};
+use commands::Command;
+use commands::CommandDisplay;
 use faults::VisitEnd;
 use model::Answer;
 use std::alloc::AllocError;
@@ -38,6 +41,34 @@ pub fn outcome(heap: Global, answer: Option<Answer>) -> Result<String, AllocErro
         None => String::from_str(heap, words),
         Some(n) => format!(heap, "{words}{n}"),
     }
+}
+
+// The answer to a command, and the answers to those after it. Set-up has no answer.
+fn answer_to(command: Command, answers: &[Answer]) -> (Option<Answer>, &[Answer])
+    ensures first { λ r. ⌜ r .0 ≡ answered (eventOf command) (now (answers .entry)) ⌝ }
+    ensures rest { λ r. ⌜ now (r .1) ≡ unanswered (eventOf command) (now (answers .entry)) ⌝ }
+{
+    if command.event().is_none() || answers.is_empty() {
+        return (None, answers);
+    }
+    (Some(answers[0]), &answers[1..])
+}
+
+// A line for each command: the command as it is written, and what came of it, by the answers to its events in order.
+pub fn report(heap: Global, commands: &[Command], answers: &[Answer]) -> Result<String, AllocError>
+    ensures { λ r. ⌜ made r (λ s. string-bytes s ≡ reportText (now (commands .entry)) (now (answers .entry))) ⌝ }
+{
+    let mut text = String::new(heap);
+    let mut rest = answers;
+    for command in commands {
+        let (answer, left) = answer_to(*command, rest);
+        rest = left;
+        let came = outcome(heap, answer)?;
+        let Ok(()) = write!(text, "{command}: {came}\n") else {
+            return Err(AllocError);
+        };
+    }
+    Ok(text)
 }
 
 // The cards that a list bars, in order.

@@ -1,20 +1,15 @@
 // Plays a script of barrings and visits, and prints what came of each line.
-use commands::CommandDisplay;
-use model::Answer;
-use script::Script;
 use script::ScriptErrorDisplay;
 use script::read;
 use spread::run;
 use std::alloc::AllocError;
+use std::alloc::Global;
 use std::env;
 use std::error::AnyError;
 use std::fs;
-use std::io;
-use std::io::BufWriter;
 use std::io::Read;
-use std::io::Write;
 use texts::lock_line;
-use texts::outcome;
+use texts::report;
 use world::World;
 
 const HELP: &str = "\
@@ -53,41 +48,18 @@ fn text_of(rt: &LibcRuntime, path: Option<String>) -> Result<Vec<u8>, AnyError> 
     }
 }
 
-// The commands with their outcomes, in order: each event has the next answer, and set-up has none.
-fn print_lines(
-    out: &mut impl Write,
-    rt: &LibcRuntime,
-    script: &Script,
-    answers: &[Answer],
-) -> Result<(), AnyError> {
-    let mut answered = answers.iter();
-    for command in script.commands.iter() {
-        let answer = match command.event() {
-            Some(_) => answered.next().copied(),
-            None => None,
-        };
-        let text = outcome(rt.alloc(), answer)?;
-        writeln!(out, "{command}: {text}")?;
-    }
-    Ok(())
-}
-
 // Each lock by number, with its list.
-fn print_locks(
-    out: &mut impl Write,
-    rt: &LibcRuntime,
-    world: &World,
-    locks: &mut Vec<u16>,
-) -> Result<(), AnyError> {
-    locks.sort();
-    for number in locks.iter() {
+fn closing(heap: Global, world: &World, locks: &[u16]) -> Result<String, AllocError> {
+    let mut text = String::new(heap);
+    for number in locks {
         if let Some(lock) = world.lock(*number) {
             let list = lock.list();
-            let text = lock_line(rt.alloc(), *number, list, world.desk().list(list))?;
-            writeln!(out, "{text}")?;
+            let line = lock_line(heap, *number, list, world.desk().list(list))?;
+            text.push_str(line.as_str())?;
+            text.push('\n')?;
         }
     }
-    Ok(())
+    Ok(text)
 }
 
 fn play(rt: &LibcRuntime, text: &[u8]) -> Result<(), AnyError> {
@@ -101,10 +73,9 @@ fn play(rt: &LibcRuntime, text: &[u8]) -> Result<(), AnyError> {
     let Ok(()) = run(&mut world, script.events.as_slice(), &mut answers) else {
         return Err("a card or lock is not set up".into());
     };
-    let mut out = BufWriter::new(rt.stdout());
-    print_lines(&mut out, rt, &script, answers.as_slice())?;
-    print_locks(&mut out, rt, &world, &mut script.locks)?;
-    out.flush()?;
+    rt.print(report(heap, script.commands.as_slice(), answers.as_slice())?)?;
+    script.locks.sort();
+    rt.print(closing(heap, &world, script.locks.as_slice())?)?;
     Ok(())
 }
 

@@ -7,7 +7,6 @@ ghost use Rattle.visits.specs.Exchange.{decision};
 ghost use Rattle.model.specs.declared.Answer.the-variants.{Decided};
 ghost use Rattle.model.specs.declared.Event.{Event};
 ghost use Rattle.model.specs.declared.Holder.{Holder};
-ghost use Rattle.world.specs.Roster.{missing, unless};
 ghost use Rattle.world.specs.World.{state-of, roster, Steps};
 ghost use Rattle.model.specs.Run.{has};
 use super::World;
@@ -147,45 +146,6 @@ impl World {
                 says,
                 gives,
             } => self.adversary(card, lock, says, gives),
-        }
-    }
-
-    fn unknown_card(&self, card: u16) -> Option<Holder>
-        ensures { λ r. ⌜ r ≡ unless (roster (now (self .entry))) (Holder.Card card) None ⌝ }
-    {
-        match self.card(card) {
-            Some(_) => None,
-            None => Some(Holder::Card(card)),
-        }
-    }
-
-    fn unknown_pair(&self, card: u16, lock: u16) -> Option<Holder>
-        ensures { λ r. ⌜ r ≡ unless (roster (now (self .entry))) (Holder.Card card) (unless (roster (now (self .entry))) (Holder.Lock lock) None) ⌝ }
-    {
-        let Some(_) = self.card(card) else {
-            return Some(Holder::Card(card));
-        };
-        match self.lock(lock) {
-            Some(_) => None,
-            None => Some(Holder::Lock(lock)),
-        }
-    }
-
-    // The first of an event's card and lock that is not set up.
-    pub fn unknown_in(&self, event: Event) -> Option<Holder>
-        ensures { λ r. ⌜ r ≡ missing (roster (now (self .entry))) event ⌝ }
-    {
-        match event {
-            Event::Day(_) => None,
-            Event::Bar(card) => self.unknown_card(card),
-            Event::AtDesk(card) => self.unknown_card(card),
-            Event::Visit { card, lock } => self.unknown_pair(card, lock),
-            Event::Adversary {
-                card,
-                lock,
-                says: _,
-                gives: _,
-            } => self.unknown_pair(card, lock),
         }
     }
 }
