@@ -18,14 +18,15 @@ use Rattle.std.proofs.shelf.Equals.{sameBytes-decides}
 use Rattle.std.proofs.shelf.Tests.{and-parts, and-from, cond-true, cond-false, cases-bool, lt-ltb, le-leb, ltb-true, leb-true, eqb-true, ne-eqb}
 use Rattle.commands.specs.declared.command.Command.{Command}
 use Rattle.commands.specs.declared.command.Command.the-variants.{Lock, Card, Day, Bar, Desk, Visit, Thief}
-use Rattle.commands.specs.declared.command.Wrong.{Wrong}
-use Rattle.commands.specs.declared.command.Wrong.the-variants.{NotAnId, NotANumber}
+use Rattle.words.specs.declared.wrong.Wrong.{Wrong}
+use Rattle.words.specs.declared.wrong.Wrong.the-variants.{NotAnId, NotANumber}
 use Rattle.commands.specs.declared.line.Name.{Name}
 use Rattle.commands.specs.declared.line.Name.the-variants.{Lock as LockName, Card as CardName, Day as DayName, Bar as BarName, Desk as DeskName, Visit as VisitName, Thief as ThiefName}
-use Rattle.commands.specs.Lines.{pieces, onFirst}
-use Rattle.commands.specs.Words.{written, optional, Id, Number, Perhaps, Lawful, numberOf, inRange, idOf, wordsOf, Reading, with, then, orWrong, idFrom, numberFrom, optionFrom, visitFrom, thiefFrom, nameOf, commandFrom, ended, parsed, Read}
-use Rattle.commands.proofs.Cuts.{pieces-none, pieces-some}
-use Rattle.commands.proofs.Numbers.{number-read, number-written, no-space}
+use Rattle.words.specs.Lines.{pieces, onFirst}
+use Rattle.words.specs.Words.{numberOf, inRange, idOf, wordsOf, Reading, with, then, orWrong, idFrom, numberFrom, optionFrom}
+use Rattle.commands.specs.Commands.{written, optional, Id, Number, Perhaps, Lawful, visitFrom, thiefFrom, nameOf, commandFrom, ended, parsed, Read}
+use Rattle.words.proofs.Cuts.{pieces-none, pieces-some}
+use Rattle.words.proofs.Numbers.{number-read, number-written, no-space}
 
 -- ---- words, and the spaces between them
 

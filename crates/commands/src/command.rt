@@ -1,4 +1,4 @@
-// A command of a script, and what can be wrong with a line.
+// A command of a script.
 ghost use mathlib.Core.Path.{_≡_};
 ghost use Rattle.commands.specs.Plays.{cardOf, lockOf, eventOf};
 use model::Event;
@@ -66,21 +66,4 @@ impl Command {
             }),
         }
     }
-}
-
-// What can be wrong with a line.
-#[derive(Clone, Copy)]
-pub enum Wrong {
-    UnknownCommand,
-    MissingWord,
-    UnexpectedWord,
-    // of a card or a lock
-    NotAnId,
-    // of a day or a list
-    NotANumber,
-    NoSuchCard(u16),
-    NoSuchLock(u16),
-    SetUpAlready,
-    NoNewline,
-    Empty,
 }

@@ -1,10 +1,11 @@
 // One line of a script.
 ghost use mathlib.Core.Path.{_≡_};
-ghost use Rattle.commands.specs.Words.{left, with, wordsOf, visitFrom, thiefFrom, nameOf, commandFrom, parsed, Read};
+ghost use Rattle.words.specs.Words.{left, with, wordsOf};
+ghost use Rattle.commands.specs.Commands.{visitFrom, thiefFrom, nameOf, commandFrom, parsed, Read};
 use crate::command::Command;
-use crate::command::Wrong;
-use crate::words::Words;
-use crate::words::same;
+use words::Words;
+use words::Wrong;
+use words::same;
 
 fn thief(words: &mut Words) -> Result<Command, Wrong>
     ensures { λ r. ⌜ with r (left (now (words .exit) .rest)) ≡ thiefFrom (left (now (words .entry) .rest)) ⌝ }

@@ -1,10 +1,8 @@
-// A command as it is written, and what is wrong with a line in words.
+// A command as it is written.
 ghost use denote.Ref.{now};
 ghost use Rattle.std.specs.declared.option.Option.the-variants.{Some};
-ghost use Rattle.commands.specs.Shown.{phrase};
-ghost use Rattle.commands.specs.Words.{optional, written};
+ghost use Rattle.commands.specs.Commands.{optional, written};
 use crate::command::Command;
-use crate::command::Wrong;
 use std::fmt;
 
 // A number after a key word, or nothing.
@@ -58,25 +56,5 @@ pub impl fmt::Display for Command as CommandDisplay {
             }
         };
         write!(f, "{name} {number}")
-    }
-}
-
-pub impl fmt::Display for Wrong as WrongDisplay {
-    ghost shown = { λ w. Some (phrase w) };
-
-    fn fmt<W: fmt::Write>(&self, f: &mut fmt::Formatter<W>) -> fmt::Result {
-        let text = match *self {
-            Wrong::UnknownCommand => "unknown command",
-            Wrong::MissingWord => "a word is missing",
-            Wrong::UnexpectedWord => "a word too many",
-            Wrong::NotAnId => "not a number from 1 to 65535",
-            Wrong::NotANumber => "not a number from 0 to 4294967295",
-            Wrong::NoSuchCard(card) => return write!(f, "no card {card} is set up above"),
-            Wrong::NoSuchLock(lock) => return write!(f, "no lock {lock} is set up above"),
-            Wrong::SetUpAlready => "set up already",
-            Wrong::NoNewline => "no newline at the end",
-            Wrong::Empty => "no command",
-        };
-        f.write_str(text)
     }
 }

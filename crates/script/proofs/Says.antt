@@ -17,18 +17,19 @@ use Rattle.std.specs.Vec.{listOf, Every}
 use Rattle.std.proofs.shelf.Tests.{or-cases, or-left, or-right, eqb-true, eq-eqb, cases-bool, cond-true, cond-false, both-ways}
 use Rattle.commands.specs.declared.command.Command.{Command}
 use Rattle.commands.specs.declared.command.Command.the-variants.{Lock, Card, Day, Bar, Desk, Visit, Thief}
-use Rattle.commands.specs.declared.command.Wrong.{Wrong}
-use Rattle.commands.specs.declared.command.Wrong.the-variants.{NoNewline, Empty, NoSuchCard, NoSuchLock, SetUpAlready}
+use Rattle.words.specs.declared.wrong.Wrong.{Wrong}
+use Rattle.words.specs.declared.wrong.Wrong.the-variants.{NoNewline, Empty, NoSuchCard, NoSuchLock, SetUpAlready}
 use Rattle.script.specs.declared.LineFault.{LineFault}
 use Rattle.script.specs.declared.Script.{Script}
 use Rattle.script.specs.declared.ScriptError.{ScriptError}
 use Rattle.script.specs.declared.ScriptError.the-variants.{Faulty, NoMemory}
-use Rattle.commands.specs.Lines.{pieces, bareOf}
-use Rattle.commands.specs.Words.{Lawful, written, wordsOf, parsed, Read}
+use Rattle.words.specs.Lines.{pieces, bareOf}
+use Rattle.words.specs.Words.{wordsOf}
+use Rattle.commands.specs.Commands.{Lawful, written, parsed, Read}
 use Rattle.commands.specs.Plays.{cardOf, lockOf}
 use Rattle.script.specs.Setup.{cardsOf, locksOf, has, isNew, knownCard, knownLock, knownBoth, whenOk, checked, commandIn, commandOn, Above, Ready, InOrder}
 use Rattle.script.specs.Scripts.{faultAt, atEnd, scriptFrom, scriptOf, Is, filled, Sound, Says, NoCommand, Stops, FirstFault, ScriptLaw}
-use Rattle.commands.proofs.Cuts.{pieces-some}
+use Rattle.words.proofs.Cuts.{pieces-some}
 use Rattle.commands.proofs.Spelt.{read-law, read-written}
 use Rattle.script.proofs.Turns.{go-on, line-then}
 

@@ -16,15 +16,15 @@ use Rattle.std.proofs.shelf.Lists.{joined-more}
 use Rattle.std.proofs.shelf.Tests.{eqb-true}
 use Rattle.std.proofs.shelf.Ways.{tells}
 use Rattle.commands.specs.declared.command.Command.{Command}
-use Rattle.commands.specs.declared.command.Wrong.{Wrong}
-use Rattle.commands.specs.declared.command.Wrong.the-variants.{NoNewline, Empty}
+use Rattle.words.specs.declared.wrong.Wrong.{Wrong}
+use Rattle.words.specs.declared.wrong.Wrong.the-variants.{NoNewline, Empty}
 use Rattle.script.specs.declared.LineFault.{LineFault}
 use Rattle.script.specs.declared.Script.{Script}
-use Rattle.commands.specs.Lines.{pieces}
+use Rattle.words.specs.Lines.{pieces}
 use Rattle.commands.specs.Plays.{cardOf, lockOf, eventOf}
 use Rattle.script.specs.Setup.{cardsOf, locksOf, eventsOf, commandOn}
 use Rattle.script.specs.Scripts.{faultAt, atEnd, scriptFrom, scriptOf, Added, Lists}
-use Rattle.commands.proofs.Cuts.{pieces-some}
+use Rattle.words.proofs.Cuts.{pieces-some}
 
 -- after n lines, rest is left of the text
 pub record SoFar (text : List ℕ) (n : ℕ) (s : Script) (rest : List ℕ) : Type 0 where

@@ -8,16 +8,16 @@ use Rattle.std.specs.declared.result.Result.the-variants.{Ok, Err}
 use Rattle.std.specs.Of.Vec.{vec-items}
 use Rattle.std.specs.Vec.{listOf, Every}
 use Rattle.commands.specs.declared.command.Command.{Command}
-use Rattle.commands.specs.declared.command.Wrong.{Wrong}
-use Rattle.commands.specs.declared.command.Wrong.the-variants.{NoNewline, Empty}
+use Rattle.words.specs.declared.wrong.Wrong.{Wrong}
+use Rattle.words.specs.declared.wrong.Wrong.the-variants.{NoNewline, Empty}
 use Rattle.script.specs.declared.LineFault.{LineFault}
 use Rattle.script.specs.declared.Script.{Script}
 use Rattle.script.specs.declared.ScriptError.{ScriptError}
 use Rattle.script.specs.declared.ScriptError.the-variants.{Faulty, NoMemory}
-use Rattle.commands.specs.Lines.{pieces, bareOf}
+use Rattle.words.specs.Lines.{pieces, bareOf}
 use Rattle.commands.specs.Plays.{cardOf, lockOf, eventOf}
 use Rattle.script.specs.Setup.{cardsOf, locksOf, eventsOf, commandOn, Ready, InOrder}
-use Rattle.commands.specs.Words.{Lawful, written}
+use Rattle.commands.specs.Commands.{Lawful, written}
 
 -- ---- what is read, line by line
 

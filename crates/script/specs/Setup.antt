@@ -14,11 +14,12 @@ use Rattle.std.specs.Vec.{listOf}
 use Rattle.model.specs.declared.Event.{Event}
 use Rattle.commands.specs.declared.command.Command.{Command}
 use Rattle.commands.specs.declared.command.Command.the-variants.{Lock, Card, Day, Bar, Desk, Visit, Thief}
-use Rattle.commands.specs.declared.command.Wrong.{Wrong}
-use Rattle.commands.specs.declared.command.Wrong.the-variants.{NoSuchCard, NoSuchLock, SetUpAlready}
+use Rattle.words.specs.declared.wrong.Wrong.{Wrong}
+use Rattle.words.specs.declared.wrong.Wrong.the-variants.{NoSuchCard, NoSuchLock, SetUpAlready}
 use Rattle.commands.specs.Plays.{cardOf, lockOf, eventOf}
-use Rattle.commands.specs.Lines.{bareOf}
-use Rattle.commands.specs.Words.{wordsOf, parsed}
+use Rattle.words.specs.Lines.{bareOf}
+use Rattle.words.specs.Words.{wordsOf}
+use Rattle.commands.specs.Commands.{parsed}
 
 -- ---- the cards and the locks that commands set up, and the events that they play, in order
 

@@ -3,7 +3,7 @@ use mathlib.Core.List.{List, _++_}
 use Prim.Native.Nat.{ℕ}
 use lib.Chars.{codes}
 use Rattle.std.specs.Written.{decimal}
-use Rattle.commands.specs.Shown.{phrase}
+use Rattle.words.specs.Shown.{phrase}
 use Rattle.script.specs.declared.LineFault.{LineFault}
 use Rattle.script.specs.declared.ScriptError.{ScriptError}
 use Rattle.script.specs.declared.ScriptError.the-variants.{Faulty, NoMemory}

@@ -7,14 +7,14 @@ ghost use Rattle.script.specs.Setup.{has, isNew, knownCard, knownLock, checked
 ghost use Rattle.script.specs.declared.ScriptError.the-variants.{NoMemory};
 ghost use Rattle.script.specs.Scripts.{faultAt, Added, Is, scriptOf, ScriptLaw};
 use commands::Command;
-use commands::Wrong;
-use commands::cut::bare;
-use commands::cut::cut;
 use commands::line::parse_line;
 use model::Event;
 use std::alloc::AllocError;
 use std::alloc::Global;
 use std::alloc::Refused;
+use words::Wrong;
+use words::cut::bare;
+use words::cut::cut;
 
 pub mod shown;
 

@@ -3,8 +3,8 @@ ghost use Rattle.std.specs.declared.option.Option.the-variants.{Some};
 ghost use Rattle.script.specs.Shown.{faultText, errorText};
 use crate::LineFault;
 use crate::ScriptError;
-use commands::WrongDisplay;
 use std::fmt;
+use words::WrongDisplay;
 
 pub impl fmt::Display for LineFault as LineFaultDisplay {
     ghost shown = { λ x. Some (faultText x) };

@@ -14,7 +14,7 @@ use Rattle.std.proofs.shelf.Tests.{both-ways}
 use Rattle.model.specs.declared.Event.{Event}
 use Rattle.model.specs.declared.Answer.{Answer}
 use Rattle.commands.specs.Plays.{eventOf}
-use Rattle.commands.specs.Words.{written}
+use Rattle.commands.specs.Commands.{written}
 use Rattle.commands.specs.declared.command.Command.{Command}
 use Rattle.texts.specs.Texts.{outcomeText, answered, unanswered, lineText, reportText}
 

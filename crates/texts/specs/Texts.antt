@@ -10,7 +10,7 @@ use Rattle.faults.specs.Numbers.{faultNumber}
 use Rattle.faults.specs.declared.VisitEnd.{VisitEnd}
 use Rattle.faults.specs.declared.VisitEnd.the-variants.{Opened, Refused as TurnedAway}
 use Rattle.commands.specs.Plays.{eventOf}
-use Rattle.commands.specs.Words.{written}
+use Rattle.commands.specs.Commands.{written}
 use Rattle.commands.specs.declared.command.Command.{Command}
 use Rattle.model.specs.declared.Event.{Event}
 use Rattle.model.specs.declared.Answer.{Answer}

@@ -1,7 +1,8 @@
 use mathlib.Core.Path.{_≡_}
 use borrow.Author.Needs.{needs}
 use Rattle.std.specs.declared.result.Result.the-variants.{Ok}
-use Rattle.commands.specs.Words.{wordsOf, parsed}
+use Rattle.words.specs.Words.{wordsOf}
+use Rattle.commands.specs.Commands.{parsed}
 use Rattle.commands.proofs.Spelt.{read-law}
 use Rattle.commands.proofs.line.parse_line.Needs as need
 

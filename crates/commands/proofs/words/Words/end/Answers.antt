@@ -1,7 +1,0 @@
-use mathlib.Core.Path.{refl, sym, ap, _∙_}
-use Rattle.commands.specs.Words.{left}
-use Rattle.commands.proofs.Cuts.{pieces-some}
-use Rattle.commands.proofs.words.Words.end.Needs as need
-
-pub returns-in-Some : need.returns-in-Some
-returns-in-Some c = (refl, λ e. pieces-some _ _ (sym (ap left (c .in-Some .is)) ∙ e))
