@@ -1,3 +1,4 @@
+// Scripts, by example: what is read, and what is refused at which line.
 use commands::CommandDisplay;
 use script::ScriptErrorDisplay;
 use script::read;
