@@ -3,7 +3,7 @@ ghost use mathlib.Core.Path.{_≡_};
 ghost use Rattle.faults.specs.Numbers.{faultNumber, NumbersTell};
 
 // The ten causes of a refusal. What is refused changes nothing. `faultNumber` gives each its number in print and on the wire.
-#[derive(Clone, Copy, PartialEq, Eq, Debug)]
+#[derive(Clone, Copy)]
 pub enum Fault {
     UnknownForm,
     OutOfRange,
@@ -37,7 +37,7 @@ impl Fault {
 }
 
 // What a lock decides at the end of a visit: it opens, or it turns the card away for a cause.
-#[derive(Clone, Copy, PartialEq, Eq, Debug)]
+#[derive(Clone, Copy)]
 pub enum VisitEnd {
     Opened,
     Refused(Fault),

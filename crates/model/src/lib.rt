@@ -2,14 +2,10 @@
 pub mod theorems;
 
 use faults::Fault;
-use faults::FaultDebug;
-use faults::FaultPartialEq;
 use faults::VisitEnd;
-use faults::VisitEndDebug;
-use faults::VisitEndPartialEq;
 
 // Whoever holds a list: a card or a lock, by its number.
-#[derive(Clone, Copy, PartialEq, Eq, Debug)]
+#[derive(Clone, Copy)]
 pub enum Holder {
     Card(u16),
     Lock(u16),
@@ -35,7 +31,7 @@ pub enum Event {
 }
 
 // What comes of an event.
-#[derive(Clone, Copy, PartialEq, Eq, Debug)]
+#[derive(Clone, Copy)]
 pub enum Answer {
     // the day is the desk's now
     Today,
