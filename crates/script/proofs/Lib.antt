@@ -1,2 +1,4 @@
 pub mod Turns
 pub mod Says
+pub mod Rows
+pub mod Reported

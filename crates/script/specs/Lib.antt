@@ -1,3 +1,4 @@
 pub mod Setup
 pub mod Scripts
 pub mod Shown
+pub mod Texts

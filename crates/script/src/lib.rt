@@ -17,9 +17,13 @@ use words::cut::bare;
 use words::cut::cut;
 
 pub mod shown;
+pub mod texts;
 
 pub use shown::LineFaultDisplay;
 pub use shown::ScriptErrorDisplay;
+pub use texts::lock_line;
+pub use texts::outcome;
+pub use texts::report;
 
 // What is wrong, and with which line.
 #[derive(Clone, Copy)]

@@ -1,6 +1,8 @@
 // Plays a script of barrings and visits, and prints what came of each line.
 use script::ScriptErrorDisplay;
+use script::lock_line;
 use script::read;
+use script::report;
 use spread::run;
 use std::alloc::AllocError;
 use std::alloc::Global;
@@ -8,8 +10,6 @@ use std::env;
 use std::error::AnyError;
 use std::fs;
 use std::io::Read;
-use texts::lock_line;
-use texts::report;
 use world::World;
 
 const HELP: &str = "\

@@ -3,7 +3,7 @@ ghost use mathlib.Core.Path.{_≡_};
 ghost use mathlib.Core.List.{_++_};
 ghost use Rattle.std.specs.Of.String.{string-bytes};
 ghost use Rattle.std.specs.Vec.{made};
-ghost use Rattle.texts.specs.Texts.{numberText, outcomeText, answered, unanswered, reportText, barsText, lockText};
+ghost use Rattle.script.specs.Texts.{numberText, outcomeText, answered, unanswered, reportText, barsText, lockText};
 ghost use Rattle.commands.specs.Plays.{eventOf};
 use commands::Command;
 use commands::CommandDisplay;

@@ -4,8 +4,8 @@ use lib.Chars.{codes}
 use Rattle.std.specs.declared.option.Option.the-variants.{Some}
 use Rattle.std.specs.Written.{decimal}
 use Rattle.model.specs.declared.Answer.the-variants.{Decided}
-use Rattle.texts.specs.Texts.{outcomeText}
-use Rattle.texts.proofs.outcome_words.Needs as need
+use Rattle.script.specs.Texts.{outcomeText}
+use Rattle.script.proofs.texts.outcome_words.Needs as need
 
 pub returns-in-Refused-end : need.returns-in-Refused-end
 returns-in-Refused-end c =

@@ -1,7 +1,7 @@
 use Rattle.std.specs.Of.String.{string-bytes}
-use Rattle.texts.specs.Texts.{reportText}
-use Rattle.texts.proofs.Lines.{turn, lines-all}
-use Rattle.texts.proofs.report.Needs as need
+use Rattle.script.specs.Texts.{reportText}
+use Rattle.script.proofs.Reported.{turn, lines-all}
+use Rattle.script.proofs.texts.report.Needs as need
 
 pub loop-command-again : need.loop-command-again
 loop-command-again c =

@@ -6,8 +6,8 @@ use lib.ListN.{length}
 use Rattle.std.specs.Options.{isSome}
 use Rattle.std.proofs.shelf.Ways.{tells}
 use Rattle.commands.specs.Plays.{eventOf}
-use Rattle.texts.proofs.Lines.{taken}
-use Rattle.texts.proofs.answer_to.Needs as need
+use Rattle.script.proofs.Reported.{taken}
+use Rattle.script.proofs.texts.answer_to.Needs as need
 
 pub returns : need.returns
 returns c =

@@ -16,7 +16,7 @@ use Rattle.model.specs.declared.Answer.{Answer}
 use Rattle.commands.specs.Plays.{eventOf}
 use Rattle.commands.specs.Commands.{written}
 use Rattle.commands.specs.declared.command.Command.{Command}
-use Rattle.texts.specs.Texts.{outcomeText, answered, unanswered, lineText, reportText}
+use Rattle.script.specs.Texts.{outcomeText, answered, unanswered, lineText, reportText}
 
 -- an event takes the first answer
 pub taken : (o : Option Event) (xs : List Answer) (d : Answer) → isSome o ≡ true → 0 < length xs →

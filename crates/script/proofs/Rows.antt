@@ -8,7 +8,7 @@ use lib.ListN.{length, getD, take}
 use Rattle.std.specs.Joined.{joined}
 use Rattle.std.specs.Written.{decimal}
 use Rattle.std.proofs.shelf.Lists.{joined-more, take-more, take-all}
-use Rattle.texts.specs.Texts.{one, barsText}
+use Rattle.script.specs.Texts.{one, barsText}
 
 pub bars-more : (so after word cs : List ℕ) (i : ℕ) → i < length cs → so ≡ joined one (take i cs) → word ≡ one (getD cs i 0) → after ≡ so ++ word → after ≡ joined one (take (i + 1) cs)
 bars-more so after word cs i h is w e =

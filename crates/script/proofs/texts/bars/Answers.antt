@@ -5,9 +5,9 @@ use lib.ListN.{length}
 use Rattle.std.specs.Joined.{joined}
 use Rattle.std.proofs.shelf.Ways.{tells}
 use Rattle.std.proofs.shelf.Lists.{take-all}
-use Rattle.texts.specs.Texts.{one}
-use Rattle.texts.proofs.Rows.{bars-more, bars-some}
-use Rattle.texts.proofs.bars.Needs as need
+use Rattle.script.specs.Texts.{one}
+use Rattle.script.proofs.Rows.{bars-more, bars-some}
+use Rattle.script.proofs.texts.bars.Needs as need
 
 pub loop-card-again : need.loop-card-again
 loop-card-again c = bars-more _ _ _ (c .args .barrings .now) (c .loop-card .card-index) (c .loop-card-test .taken) (c .loop-card .inv) refl (c .in-Ok .ensures tt .bytes)
