@@ -34,7 +34,7 @@ use Rattle.model.specs.declared.Holder.the-variants.{Card, Lock}
 use Rattle.model.specs.Run.{State, put, number, has, after-hearing, of-day, of-barring, step, answer, after}
 use Rattle.model.specs.Informed.{Made, BarringOf, Informed, at-desk, card-to-lock, stays}
 use Rattle.model.specs.Promise.{Shows, honest, adversary, Ends, Opens, TurnsAway, KnowsBarred, Unmoved, Promise, Main, Once, Numbered}
-use Rattle.model.proofs.Tables.{put-same, put-again}
+use Rattle.model.proofs.Tables.{put-same, put-again, same-state}
 use Rattle.model.proofs.Held.{sound, kept, counted, told}
 use Rattle.model.proofs.Rows.{At, at-more, at-less, row-stays, row-stays-over, on-list, list-has, row-apart, row-short}
 
@@ -152,9 +152,6 @@ heard-none s c l says gives un =
       ]
       | inr f ↦ cond-false (has gives s) (heard (s .lock l) says gives) (s .lock l) f
     ]
-
-same-state : {s t : State} → s .day ≡ t .day → s .barred ≡ t .barred → ((c : ℕ) → s .card c ≡ t .card c) → ((l : ℕ) → s .lock l ≡ t .lock l) → s ≡ t
-same-state o p q r = λ i. record { day = o i; barred = p i; card = λ c. q c i; lock = λ l. r l i }
 
 -- the desk's answer to a barring
 answered : (c : ℕ) (s : State) (x : Result ℕ Fault) → barAnswer c (s .barred) ≡ x → answer (Bar c) s ≡ of-barring x

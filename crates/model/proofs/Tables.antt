@@ -1,4 +1,4 @@
--- What `newer`, `put` and `after-hearing` give, case by case. Assumes nothing.
+-- What `newer`, `put` and `after-hearing` give, case by case; when two states are one. Assumes nothing.
 use mathlib.Core.Path.{_≡_, refl, _∙_}
 use mathlib.Core.Bool.{Bool, true, false, cond}
 use mathlib.Core.Logic.{_⊎_, inl, inr}
@@ -68,3 +68,7 @@ hearing-takes l t s signs =
       | inl lt ↦ omega (arith, e, taken (s .lock l) t t lt refl .1)
       | inr le ↦ omega (arith, e, not-awaited (s .lock l) t (Some t) le .1)
     ]
+
+-- two states that agree in every part are one
+pub same-state : {s t : State} → s .day ≡ t .day → s .barred ≡ t .barred → ((c : ℕ) → s .card c ≡ t .card c) → ((l : ℕ) → s .lock l ≡ t .lock l) → s ≡ t
+same-state o p q r = λ i. record { day = o i; barred = p i; card = λ c. q c i; lock = λ l. r l i }

@@ -20,13 +20,10 @@ use Rattle.model.specs.declared.Answer.the-variants.{Decided, BrokenOff, NoList
 use Rattle.model.specs.declared.Holder.{Holder}
 use Rattle.model.specs.declared.Holder.the-variants.{Card, Lock}
 use Rattle.model.specs.Run.{State, put, has, after-hearing, step, answer}
-use Rattle.model.proofs.Tables.{put-again}
+use Rattle.model.proofs.Tables.{put-again, same-state}
 use Rattle.world.specs.Roster.{missing}
 use Rattle.world.specs.World.{card-list, lock-list, state-from, roster-from}
 use Rattle.world.proofs.Places.{set-under, set-put}
-
-pub same-state : {s t : State} → s .day ≡ t .day → s .barred ≡ t .barred → ((c : ℕ) → s .card c ≡ t .card c) → ((l : ℕ) → s .lock l ≡ t .lock l) → s ≡ t
-same-state o p q r = λ i. record { day = o i; barred = p i; card = λ c. q c i; lock = λ l. r l i }
 
 -- the tables of cards and locks, and a card and a lock that are set up
 module _ (day : ℕ) (bars : List ℕ) (cards : List (Option CardMemory)) (locks : List (Option LockMemory)) (c l : ℕ) (a : CardMemory) (k : LockMemory)
