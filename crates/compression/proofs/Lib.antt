@@ -1,0 +1,4 @@
+pub mod Steps
+pub mod Digits
+pub mod Schedules
+pub mod Turns
