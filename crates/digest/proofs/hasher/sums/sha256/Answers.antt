@@ -1,0 +1,8 @@
+use mathlib.Core.List.{[]}
+use mathlib.Core.Path.{refl, _∙_}
+use Rattle.compression.specs.Sha256.{absorbed}
+use Rattle.digest.proofs.hasher.sums.sha256.Needs as need
+
+pub returns : need.returns
+unfolding absorbed
+returns c = c .close .ensures [] 0 refl refl (c .initial .ensures)
