@@ -145,3 +145,8 @@ closes first rest last a end bits s s1 s2 h es eb ee el e1 e2 =
     let count : a + b + length y / 64 ≡ length ((first ++ rest) ++ padding n) / 64 =
     omega (arith, sym (ap length joined), length-append x y) in
     ap output (sym g2 ∙ ap₂ (λ v k. absorbed v k H0) joined count)
+
+-- a digest has 32 bytes
+pub length-digest : (m : List ℕ) → length (digest m) ≡ 32
+unfolding digest output
+length-digest m = simp (length-append, length-bytes)

@@ -1,2 +1,4 @@
 pub mod Closing
+pub mod Hmac
+pub mod Keyed
 pub mod Taken
