@@ -1,0 +1,4 @@
+pub mod Comparing
+pub mod Joining
+pub mod Runs
+pub mod Sizes

@@ -1,0 +1,4 @@
+pub mod Same
+pub mod Signed
+pub mod StandIn
+pub mod Unforged
