@@ -5,7 +5,6 @@ ghost use lib.ListN.{length};
 ghost use Rattle.compression.specs.Sha256.{sum, compressed, absorbed};
 use crate::rounds::sixteen_rounds;
 use crate::schedule::first_words;
-use crate::schedule::next_words;
 use crate::state::State;
 
 fn add(s: State, t: State) -> State
@@ -28,14 +27,11 @@ fn compress(s: State, block: &[u8]) -> State
     requires { ⌜ length (now block) ≡ 64 ⌝ }
     ensures { λ r. ⌜ r ≡ compressed s (now (block .entry)) ⌝ }
 {
-    let w0 = first_words(block);
-    let s0 = sixteen_rounds(s, 0, &w0);
-    let w1 = next_words(&w0);
-    let s1 = sixteen_rounds(s0, 16, &w1);
-    let w2 = next_words(&w1);
-    let s2 = sixteen_rounds(s1, 32, &w2);
-    let w3 = next_words(&w2);
-    add(s, sixteen_rounds(s2, 48, &w3))
+    let (s0, w0) = sixteen_rounds::<0>(s, &first_words(block));
+    let (s1, w1) = sixteen_rounds::<16>(s0, &w0);
+    let (s2, w2) = sixteen_rounds::<32>(s1, &w1);
+    let (s3, _) = sixteen_rounds::<48>(s2, &w2);
+    add(s, s3)
 }
 
 // The state after the whole blocks of `bytes`.

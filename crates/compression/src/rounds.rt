@@ -1,9 +1,10 @@
-// The sixty-four rounds of a block.
+// The rounds of a block, sixteen at a time.
 ghost use mathlib.Core.Path.{_≡_};
 ghost use Prim.Native.Nat.{_+_, _<_, _≤_};
 ghost use lib.ListN.{getD};
-ghost use Rattle.compression.specs.Parts.{roundsFrom};
-ghost use Rattle.compression.specs.Sha256.{K, T1, T2, round as oneRound};
+ghost use Rattle.compression.specs.Parts.{following, roundsFrom};
+ghost use Rattle.compression.specs.Sha256.{K, T1, T2, nextWord, round as oneRound};
+use crate::schedule::next_word;
 use crate::state::State;
 use crate::words::big_sigma0;
 use crate::words::big_sigma1;
@@ -46,25 +47,59 @@ fn round(s: State, t: usize, w: u32) -> State
     }
 }
 
-// The sixteen rounds from the round `t` on. They are written out, since a loop would move the eight words from place to place.
-pub fn sixteen_rounds(s: State, t: usize, w: &[u32; 16]) -> State
-    requires { ⌜ t + 16 ≤ 64 ⌝ }
-    ensures { λ r. ⌜ r ≡ roundsFrom t (now (w .entry)) 16 s ⌝ }
+// The round `t` with its word, and the word sixteen places after that, by those 15, 7 and 2 places before it. The word comes before the
+// round: so it stands in the compiled code, and that is the faster order.
+fn step(s: State, t: usize, w16: u32, w15: u32, w7: u32, w2: u32) -> (State, u32)
+    requires { ⌜ t < 64 ⌝ }
+    ensures state { λ r. ⌜ r .0 ≡ oneRound s (getD K t 0) w16 ⌝ }
+    ensures word { λ r. ⌜ r .1 ≡ nextWord w2 w7 w15 w16 ⌝ }
 {
-    let s0 = round(s, t, w[0]);
-    let s1 = round(s0, t + 1, w[1]);
-    let s2 = round(s1, t + 2, w[2]);
-    let s3 = round(s2, t + 3, w[3]);
-    let s4 = round(s3, t + 4, w[4]);
-    let s5 = round(s4, t + 5, w[5]);
-    let s6 = round(s5, t + 6, w[6]);
-    let s7 = round(s6, t + 7, w[7]);
-    let s8 = round(s7, t + 8, w[8]);
-    let s9 = round(s8, t + 9, w[9]);
-    let s10 = round(s9, t + 10, w[10]);
-    let s11 = round(s10, t + 11, w[11]);
-    let s12 = round(s11, t + 12, w[12]);
-    let s13 = round(s12, t + 13, w[13]);
-    let s14 = round(s13, t + 14, w[14]);
-    round(s14, t + 15, w[15])
+    let w = next_word(w2, w7, w15, w16);
+    (round(s, t, w16), w)
+}
+
+// The sixteen rounds from the round `T` on, and the sixteen words after theirs. They are written out, with a number that is known when
+// they are compiled: a loop would move the eight words of the state, and those of the schedule, from place to place.
+pub fn sixteen_rounds<const T: usize>(s: State, w: &[u32; 16]) -> (State, [u32; 16])
+    requires { ⌜ T + 16 ≤ 64 ⌝ }
+    ensures state { λ r. ⌜ r .0 ≡ roundsFrom T (now (w .entry)) 16 s ⌝ }
+    ensures words { λ r. ⌜ r .1 ≡ following (now (w .entry)) ⌝ }
+{
+    let (s0, w0) = step(s, T, w[0], w[1], w[9], w[14]);
+    let (s1, w1) = step(s0, T + 1, w[1], w[2], w[10], w[15]);
+    let (s2, w2) = step(s1, T + 2, w[2], w[3], w[11], w0);
+    let (s3, w3) = step(s2, T + 3, w[3], w[4], w[12], w1);
+    let (s4, w4) = step(s3, T + 4, w[4], w[5], w[13], w2);
+    let (s5, w5) = step(s4, T + 5, w[5], w[6], w[14], w3);
+    let (s6, w6) = step(s5, T + 6, w[6], w[7], w[15], w4);
+    let (s7, w7) = step(s6, T + 7, w[7], w[8], w0, w5);
+    let (s8, w8) = step(s7, T + 8, w[8], w[9], w1, w6);
+    let (s9, w9) = step(s8, T + 9, w[9], w[10], w2, w7);
+    let (s10, w10) = step(s9, T + 10, w[10], w[11], w3, w8);
+    let (s11, w11) = step(s10, T + 11, w[11], w[12], w4, w9);
+    let (s12, w12) = step(s11, T + 12, w[12], w[13], w5, w10);
+    let (s13, w13) = step(s12, T + 13, w[13], w[14], w6, w11);
+    let (s14, w14) = step(s13, T + 14, w[14], w[15], w7, w12);
+    let (s15, w15) = step(s14, T + 15, w[15], w0, w8, w13);
+    (
+        s15,
+        [
+            w0,
+            w1,
+            w2,
+            w3,
+            w4,
+            w5,
+            w6,
+            w7,
+            w8,
+            w9,
+            w10,
+            w11,
+            w12,
+            w13,
+            w14,
+            w15,
+        ],
+    )
 }
