@@ -1,6 +1,7 @@
 // Holds digests and codes to published values.
 use digest::Hasher;
 use digest::Hmac;
+use digest::TooLong;
 use digest::hmac_sha256;
 use digest::sha256;
 use std::alloc::Global;
@@ -13,10 +14,10 @@ use words::cut::bare;
 use words::cut::cut;
 
 const HELP: &str = "\
-usage: vectors FILE
+usage: vectors FILE ..
 
-Holds the digests and codes of this library to the published values in FILE, and prints a line
-for each. It ends with status 1 if one of them differs.
+Holds SHA-256 and HMAC-SHA-256 to the values in the files, each taken whole and cut in three parts
+at the limits of a block, and prints a line for each. It ends with status 1 if one of them differs.
 
   sha256 NAME MESSAGE TIMES DIGEST    the digest of the message, repeated so many times
   hmac NAME KEY MESSAGE CODE          the code of the message under the key, or as many of its
@@ -92,8 +93,11 @@ fn repeated(heap: Global, message: &[u8], times: u32) -> Result<Vec<u8>, AnyErro
     Ok(all)
 }
 
+// Where a message is cut into parts: the limits of a block, of two, and of what leaves room for the length.
+const CUTS: [usize; 10] = [0, 1, 55, 56, 63, 64, 65, 119, 120, 128];
+
 // The digest of a message that comes `times` times, in as many parts; `None` if that gets too long.
-fn digest_in_parts(message: &[u8], times: u32) -> Option<[u8; 32]> {
+fn digest_of_times(message: &[u8], times: u32) -> Option<[u8; 32]> {
     let mut hasher = Hasher::new();
     for _ in 0..times {
         let Ok(()) = hasher.update(message) else {
@@ -103,45 +107,94 @@ fn digest_in_parts(message: &[u8], times: u32) -> Option<[u8; 32]> {
     Some(hasher.finish())
 }
 
-// The code of a message that comes in two parts.
-fn code_in_parts(key: &[u8], first: &[u8], second: &[u8]) -> Option<[u8; 32]> {
-    let mut hmac = Hmac::new(key);
-    let Ok(()) = hmac.update(first) else {
-        return None;
-    };
-    let Ok(()) = hmac.update(second) else {
-        return None;
-    };
-    Some(hmac.finish())
+// The digest of a message in three parts.
+fn digest_in_parts(first: &[u8], second: &[u8], third: &[u8]) -> Result<[u8; 32], TooLong> {
+    let mut hasher = Hasher::new();
+    hasher.update(first)?;
+    hasher.update(second)?;
+    hasher.update(third)?;
+    Ok(hasher.finish())
 }
 
-// Whether the digest that a line has is the one of its message, taken whole and in parts.
+fn code_in_parts(
+    key: &[u8],
+    first: &[u8],
+    second: &[u8],
+    third: &[u8],
+) -> Result<[u8; 32], TooLong> {
+    let mut hmac = Hmac::new(key);
+    hmac.update(first)?;
+    hmac.update(second)?;
+    hmac.update(third)?;
+    Ok(hmac.finish())
+}
+
+// Whether a digest is the published one wherever its message is cut in three.
+fn digest_cut_anywhere(message: &[u8], published: &[u8]) -> Result<bool, TooLong> {
+    for i in CUTS {
+        for j in CUTS {
+            if i <= j && j <= message.len() {
+                let computed = digest_in_parts(&message[0..i], &message[i..j], &message[j..])?;
+                if !begins(&computed, published) {
+                    return Ok(false);
+                }
+            }
+        }
+    }
+    Ok(true)
+}
+
+// Whether a code begins with the published bytes wherever its message is cut in three.
+fn code_cut_anywhere(key: &[u8], message: &[u8], published: &[u8]) -> Result<bool, TooLong> {
+    for i in CUTS {
+        for j in CUTS {
+            if i <= j && j <= message.len() {
+                let computed = code_in_parts(key, &message[0..i], &message[i..j], &message[j..])?;
+                if !begins(&computed, published) {
+                    return Ok(false);
+                }
+            }
+        }
+    }
+    Ok(true)
+}
+
+fn begins(bytes: &[u8; 32], front: &[u8]) -> bool {
+    front.len() <= 32 && &bytes[0..front.len()] == front
+}
+
+// Whether the digest that a line has is the one of its message, taken whole, by its repetitions and cut anywhere.
 fn digest_holds(heap: Global, words: &mut Words<'_>) -> Result<bool, AnyError> {
     let message = next_bytes(heap, words)?;
     let times = next_number(heap, words)?;
     let published = next_bytes(heap, words)?;
-    let Some(in_parts) = digest_in_parts(message.as_slice(), times) else {
+    if published.len() != 32 {
+        return Err("a digest has 32 bytes".into());
+    }
+    let Some(by_times) = digest_of_times(message.as_slice(), times) else {
         return Ok(false);
     };
     let all = repeated(heap, message.as_slice(), times)?;
-    Ok(sha256(all.as_slice()) == published.as_slice() && in_parts == published.as_slice())
+    let whole = sha256(all.as_slice());
+    let Ok(cut) = digest_cut_anywhere(all.as_slice(), published.as_slice()) else {
+        return Ok(false);
+    };
+    Ok(cut && begins(&whole, published.as_slice()) && begins(&by_times, published.as_slice()))
 }
 
-// Whether the code that a line has, or what is published of it, is the one of its message, taken whole and in parts.
+// Whether the code that a line has, or what is published of it, is the one of its message, taken whole and cut anywhere.
 fn code_holds(heap: Global, words: &mut Words<'_>) -> Result<bool, AnyError> {
     let key = next_bytes(heap, words)?;
     let message = next_bytes(heap, words)?;
     let published = next_bytes(heap, words)?;
-    let n = published.len();
-    if n < 16 || n > 32 {
+    if published.len() < 16 || published.len() > 32 {
         return Err("a code has 16 to 32 bytes".into());
     }
-    let (first, second) = message.as_slice().split_at(message.len() / 2);
-    let Some(in_parts) = code_in_parts(key.as_slice(), first, second) else {
+    let whole = hmac_sha256(key.as_slice(), message.as_slice());
+    let Ok(cut) = code_cut_anywhere(key.as_slice(), message.as_slice(), published.as_slice()) else {
         return Ok(false);
     };
-    let whole = hmac_sha256(key.as_slice(), message.as_slice());
-    Ok(&whole[0..n] == published.as_slice() && &in_parts[0..n] == published.as_slice())
+    Ok(cut && begins(&whole, published.as_slice()))
 }
 
 // One line: its first two words are printed, and whether its value holds.
@@ -165,9 +218,13 @@ fn hold(rt: &LibcRuntime, line: &[u8]) -> Result<bool, AnyError> {
     Ok(holds)
 }
 
-fn hold_all(rt: &LibcRuntime, path: &str) -> Result<(), AnyError> {
+// Whether every value of a file holds.
+fn hold_all(rt: &LibcRuntime, path: &str) -> Result<bool, AnyError> {
     let heap = rt.alloc();
-    let text = fs::read(rt, path)?;
+    let text = match fs::read(rt, path) {
+        Ok(text) => text,
+        Err(error) => return Err(format!(heap, "{path}: {error}")?.into()),
+    };
     let mut all = true;
     let mut rest = Some(text.as_slice());
     for number in 1..text.len() + 2 {
@@ -185,23 +242,28 @@ fn hold_all(rt: &LibcRuntime, path: &str) -> Result<(), AnyError> {
             Err(error) => return Err(format!(heap, "{path}, line {number}: {error}")?.into()),
         }
     }
+    Ok(all)
+}
+
+fn vectors(rt: &LibcRuntime) -> Result<(), AnyError> {
+    let mut all = true;
+    let mut none = true;
+    for path in env::args(rt)?.skip(1) {
+        if path.as_str() == "--help" {
+            print!(rt, "{HELP}")?;
+            return Ok(());
+        }
+        none = false;
+        all = hold_all(rt, path.as_str())? && all;
+    }
+    if none {
+        return Err("a file is expected; see vectors --help".into());
+    }
     if all {
         Ok(())
     } else {
         Err("a value differs".into())
     }
-}
-
-fn vectors(rt: &LibcRuntime) -> Result<(), AnyError> {
-    let mut args = env::args(rt)?.skip(1);
-    let (Some(path), None) = (args.next(), args.next()) else {
-        return Err("one file is expected; see vectors --help".into());
-    };
-    if path.as_str() == "--help" {
-        print!(rt, "{HELP}")?;
-        return Ok(());
-    }
-    hold_all(rt, path.as_str())
 }
 
 fn main(rt: LibcRuntime) -> Result<(), AnyError> {

@@ -1,6 +1,8 @@
+use mathlib.Core.Path.{ap₂}
+use lib.Bits.{bitXor}
 use Rattle.compression.specs.Sha256.{BSIG0, ROTR}
 use Rattle.compression.proofs.words.big_sigma0.Needs as need
 
 pub returns : need.returns
 unfolding BSIG0 ROTR
-returns c = cc
+returns c = ap₂ bitXor (ap₂ bitXor (c .rotate-right .ensures) (c .rotate-right-2 .ensures)) (c .rotate-right-3 .ensures)
