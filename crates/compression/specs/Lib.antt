@@ -1,2 +1,3 @@
+pub mod Laws
 pub mod Parts
 pub mod Sha256

@@ -3,6 +3,7 @@ mod blocks;
 mod rounds;
 mod schedule;
 mod state;
+pub mod theorems;
 mod words;
 
 pub use blocks::absorb;

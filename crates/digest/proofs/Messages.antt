@@ -8,6 +8,7 @@ use borrow.Rule.Slice.PartMut.{putMid}
 use lib.ListN.{length, set, take, drop, replicate}
 use Rattle.std.proofs.shelf.Lists.{length-append, length-take, length-drop, length-replicate, take-append-le, drop-append-le, drop-drop, drop-at, take-at, set-at, take-append-drop, drop-replicate, take-rest, replicate-append-replicate}
 use Rattle.compression.specs.declared.state.State.{State}
+use Rattle.compression.proofs.Padded.{length-bytes, length-padding}
 use Rattle.compression.specs.Sha256.{H0, bytes, zeros, padding, padded, compressed, absorbed, output, digest}
 
 -- ---- blocks of lists that are joined
@@ -88,18 +89,9 @@ output-is s =
     ap₂ _++_ (four-is (s .a)) (ap₂ _++_ (four-is (s .b)) (ap₂ _++_ (four-is (s .c)) (ap₂ _++_ (four-is (s .d))
     (ap₂ _++_ (four-is (s .e)) (ap₂ _++_ (four-is (s .f)) (ap₂ _++_ (four-is (s .g)) (four-is (s .h))))))))
 
-length-bytes : (k n : ℕ) → length (bytes k n) ≡ k
-unfolding bytes
-length-bytes zero n = refl
-length-bytes (suc k) n = ap suc (length-bytes k n)
-
 zeros-of-rest : (n : ℕ) → zeros (n % 64) ≡ zeros n
 unfolding zeros
 zeros-of-rest n = omega arith
-
-length-padding : (n : ℕ) → length (padding n) ≡ 1 + zeros n + 8
-unfolding padding
-length-padding n = simp (length-append, length-replicate, length-bytes) (omega arith)
 
 -- `first` is a blocks; of `rest` the whole blocks are absorbed where they stand, and what is left stands in `last` with the padding
 pub closes : (first rest last : List ℕ) (a end bits : ℕ) (s s1 s2 : State)

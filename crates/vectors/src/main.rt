@@ -8,8 +8,8 @@ use std::alloc::Global;
 use std::env;
 use std::error::AnyError;
 use std::fs;
+use std::io::Write;
 use words::Words;
-use words::WrongDisplay;
 use words::cut::bare;
 use words::cut::cut;
 
@@ -59,30 +59,15 @@ fn bytes_of(heap: Global, word: &[u8]) -> Result<Vec<u8>, AnyError> {
     }
 }
 
-fn next<'a>(heap: Global, words: &mut Words<'a>) -> Result<&'a [u8], AnyError> {
+fn next<'a>(words: &mut Words<'a>) -> Result<&'a [u8], AnyError> {
     match words.next() {
         Ok(word) => Ok(word),
-        Err(wrong) => Err(format!(heap, "{wrong}")?.into()),
+        Err(_) => Err("a word is missing".into()),
     }
 }
 
 fn next_bytes(heap: Global, words: &mut Words<'_>) -> Result<Vec<u8>, AnyError> {
-    bytes_of(heap, next(heap, words)?)
-}
-
-// A name as text, to be printed.
-fn name_of(heap: Global, word: &[u8]) -> Result<String, AnyError> {
-    match std::str::from_utf8(word) {
-        Ok(name) => Ok(String::from_str(heap, name)?),
-        Err(_) => Err("a name is text".into()),
-    }
-}
-
-fn next_number(heap: Global, words: &mut Words<'_>) -> Result<u32, AnyError> {
-    match words.number() {
-        Ok(number) => Ok(number),
-        Err(wrong) => Err(format!(heap, "{wrong}")?.into()),
-    }
+    bytes_of(heap, next(words)?)
 }
 
 fn repeated(heap: Global, message: &[u8], times: u32) -> Result<Vec<u8>, AnyError> {
@@ -166,7 +151,9 @@ fn begins(bytes: &[u8; 32], front: &[u8]) -> bool {
 // Whether the digest that a line has is the one of its message, taken whole, by its repetitions and cut anywhere.
 fn digest_holds(heap: Global, words: &mut Words<'_>) -> Result<bool, AnyError> {
     let message = next_bytes(heap, words)?;
-    let times = next_number(heap, words)?;
+    let Ok(times) = words.number() else {
+        return Err("a number is expected".into());
+    };
     let published = next_bytes(heap, words)?;
     if published.len() != 32 {
         return Err("a digest has 32 bytes".into());
@@ -201,20 +188,23 @@ fn code_holds(heap: Global, words: &mut Words<'_>) -> Result<bool, AnyError> {
 fn hold(rt: &LibcRuntime, line: &[u8]) -> Result<bool, AnyError> {
     let heap = rt.alloc();
     let mut words = Words { rest: Some(line) };
-    let kind = next(heap, &mut words)?;
-    let name = name_of(heap, next(heap, &mut words)?)?;
-    let (label, holds) = if kind == b"sha256" {
-        ("sha256", digest_holds(heap, &mut words)?)
+    let kind = next(&mut words)?;
+    let name = next(&mut words)?;
+    let holds = if kind == b"sha256" {
+        digest_holds(heap, &mut words)?
     } else if kind == b"hmac" {
-        ("hmac", code_holds(heap, &mut words)?)
+        code_holds(heap, &mut words)?
     } else {
         return Err("sha256 or hmac is expected".into());
     };
-    if let Err(wrong) = words.end() {
-        return Err(format!(heap, "{wrong}")?.into());
-    }
-    let verdict = if holds { "ok" } else { "differs" };
-    println!(rt, "{label} {name}: {verdict}")?;
+    let Ok(()) = words.end() else {
+        return Err("a word too many".into());
+    };
+    let mut out = rt.stdout();
+    out.write_all(kind)?;
+    out.write_all(b" ")?;
+    out.write_all(name)?;
+    out.write_all(if holds { b": ok\n" } else { b": differs\n" })?;
     Ok(holds)
 }
 

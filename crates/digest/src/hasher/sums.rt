@@ -46,7 +46,7 @@ impl Hasher {
         close(self.state, self.count - used as u64, &self.pending[0..used])
     }
 
-    pub fn take(&mut self, part: &[u8])
+    pub(crate) fn take(&mut self, part: &[u8])
         requires { ⌜ now self .count + length (now part) < 2 ^ 61 ⌝ }
         ensures { λ _. ⌜ Takes (now (self .entry)) (now (part .entry)) (now (self .exit)) ⌝ }
     {
