@@ -29,10 +29,10 @@ pub padding-is : (m : List ℕ) → Padding m
 unfolding padded padding
 padding-is m =
     let n = length m in
-    let zs = replicate (zeros n) 0 in
-    let field = bytes 8 (8 * n % 2 ^ 64) in
-    let before = m ++ 0x80 ∷ zs in
-    let l : length before ≡ n + 1 + zeros n = length-append m (0x80 ∷ zs) ∙ simp length-replicate (omega arith) in
+    let zs : List ℕ = replicate (zeros n) 0 in
+    let field : List ℕ = bytes 8 (8 * n % 2 ^ 64) in
+    let before : List ℕ = m ++ 0x80 ∷ zs in
+    let l : length before ≡ n + 1 + zeros n = length-append m (0x80 ∷ zs) ∙ ap (λ k. n + suc k) (length-replicate (zeros n) 0) ∙ omega arith in
     let cut : m ++ 0x80 ∷ (zs ++ field) ≡ before ++ field = sym (append-assoc m (0x80 ∷ zs) field) in
     record {
       whole = ap (λ k. k % 64) (length-append m (padding n) ∙ ap (λ k. n + k) (length-padding n)) ∙ whole n;

@@ -57,7 +57,7 @@ extended-more w p v (suc n) e =
     let e1 = at 1 in
     let e0 : getD (p ++ x) (a + n) 0 ≡ getD x n 0 = getD-append-add p x n 0 in
     let new = nextWord (getD x (n + 14) 0) (getD x (n + 9) 0) (getD x (n + 1) 0) (getD x n 0) in
-    let one : extended w (a + suc n) ≡ (p ++ x) ++ new ∷ [] = rw add-suc cc in
+    let one : extended w (a + suc n) ≡ (p ++ x) ++ new ∷ [] = ap (extended w) (add-suc a n) ∙ cc in
     one ∙ append-assoc p x (new ∷ [])
 
 length-extended : (w : List ℕ) (n : ℕ) → length (extended w n) ≡ length w + n

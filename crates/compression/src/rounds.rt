@@ -60,7 +60,7 @@ fn step(s: State, t: usize, w16: u32, w15: u32, w7: u32, w2: u32) -> (State, u32
 
 // The sixteen rounds from the round `T` on, and the sixteen words after theirs. They are written out, with a number that is known when
 // they are compiled: a loop would move the eight words of the state, and those of the schedule, from place to place.
-pub fn sixteen_rounds<const T: usize>(s: State, w: &[u32; 16]) -> (State, [u32; 16])
+pub(crate) fn sixteen_rounds<const T: usize>(s: State, w: &[u32; 16]) -> (State, [u32; 16])
     requires { ⌜ T + 16 ≤ 64 ⌝ }
     ensures state { λ r. ⌜ r .0 ≡ roundsFrom T (now (w .entry)) 16 s ⌝ }
     ensures words { λ r. ⌜ r .1 ≡ following (now (w .entry)) ⌝ }

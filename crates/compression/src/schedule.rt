@@ -15,7 +15,7 @@ fn block_word(block: &[u8], t: usize) -> u32
     u32::from_be_bytes([block[at], block[at + 1], block[at + 2], block[at + 3]])
 }
 
-pub fn first_words(block: &[u8]) -> [u32; 16]
+pub(crate) fn first_words(block: &[u8]) -> [u32; 16]
     requires { ⌜ length (now block) ≡ 64 ⌝ }
     ensures { λ r. ⌜ r ≡ words (now (block .entry)) 16 ⌝ }
 {
@@ -27,7 +27,7 @@ pub fn first_words(block: &[u8]) -> [u32; 16]
 }
 
 // A word of the schedule by those 2, 7, 15 and 16 places before it.
-pub fn next_word(w2: u32, w7: u32, w15: u32, w16: u32) -> u32
+pub(crate) fn next_word(w2: u32, w7: u32, w15: u32, w16: u32) -> u32
     ensures { λ r. ⌜ r ≡ nextWord w2 w7 w15 w16 ⌝ }
 {
     small_sigma1(w2)

@@ -6,38 +6,38 @@ ghost use Rattle.compression.specs.Sha256.{CH, MAJ, BSIG0, BSIG1, SSIG0, SSIG1
 use crate::state::State;
 
 // Bit by bit: of `y` where `x` has a 1, else of `z`. One operation fewer than the definition has.
-pub fn choose(x: u32, y: u32, z: u32) -> u32
+pub(crate) fn choose(x: u32, y: u32, z: u32) -> u32
     ensures { λ r. ⌜ r ≡ CH x y z ⌝ }
 {
     z ^ (x & (y ^ z))
 }
 
 // Bit by bit: what at least two of the three have. In the next round `y ^ z` is what `x ^ y` is in this one, so it is computed once.
-pub fn majority(x: u32, y: u32, z: u32) -> u32
+pub(crate) fn majority(x: u32, y: u32, z: u32) -> u32
     ensures { λ r. ⌜ r ≡ MAJ x y z ⌝ }
 {
     ((x ^ y) & (y ^ z)) ^ y
 }
 
-pub fn big_sigma0(x: u32) -> u32
+pub(crate) fn big_sigma0(x: u32) -> u32
     ensures { λ r. ⌜ r ≡ BSIG0 x ⌝ }
 {
     x.rotate_right(2) ^ x.rotate_right(13) ^ x.rotate_right(22)
 }
 
-pub fn big_sigma1(x: u32) -> u32
+pub(crate) fn big_sigma1(x: u32) -> u32
     ensures { λ r. ⌜ r ≡ BSIG1 x ⌝ }
 {
     x.rotate_right(6) ^ x.rotate_right(11) ^ x.rotate_right(25)
 }
 
-pub fn small_sigma0(x: u32) -> u32
+pub(crate) fn small_sigma0(x: u32) -> u32
     ensures { λ r. ⌜ r ≡ SSIG0 x ⌝ }
 {
     x.rotate_right(7) ^ x.rotate_right(18) ^ (x >> 3)
 }
 
-pub fn small_sigma1(x: u32) -> u32
+pub(crate) fn small_sigma1(x: u32) -> u32
     ensures { λ r. ⌜ r ≡ SSIG1 x ⌝ }
 {
     x.rotate_right(17) ^ x.rotate_right(19) ^ (x >> 10)
@@ -110,7 +110,7 @@ static ROUND_CONSTANTS: [u32; 64] = [
     0xc67178f2,
 ];
 
-pub fn round_constant(t: usize) -> u32
+pub(crate) fn round_constant(t: usize) -> u32
     requires { ⌜ t < 64 ⌝ }
     ensures { λ r. ⌜ r ≡ getD K t 0 ⌝ }
 {

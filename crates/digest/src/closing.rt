@@ -9,7 +9,7 @@ use compression::State;
 use compression::absorb;
 
 // Writes `part` over what stands at `at` and after.
-pub fn put(out: &mut [u8], at: usize, part: &[u8])
+pub(crate) fn put(out: &mut [u8], at: usize, part: &[u8])
     requires { ⌜ at + length (now part) ≤ length (now out) ⌝ }
     ensures { λ _. ⌜ now (out .exit) ≡ take at (now (out .entry)) ++ (now (part .entry) ++ drop (at + length (now (part .entry))) (now (out .entry))) ⌝ }
 {
@@ -85,7 +85,7 @@ fn to_bytes(s: State) -> [u8; 32]
 }
 
 // The digest of a message of which the first `before` bytes, whole blocks, came to `state`, and `rest` are the others.
-pub fn close(state: State, before: u64, rest: &[u8]) -> [u8; 32]
+pub(crate) fn close(state: State, before: u64, rest: &[u8]) -> [u8; 32]
     requires { ⌜ before ≤ 2 ^ 61 ⌝ }
     ensures { λ r. ⌜ Closes state before (now (rest .entry)) r ⌝ }
 {
