@@ -7,7 +7,7 @@ use native.Mathlib.Omega.{arith}
 use lib.ListN.{length, take, drop}
 use Rattle.compression.specs.declared.state.State.{State}
 use Rattle.compression.specs.Parts.{following, roundsFrom}
-use Rattle.compression.specs.Sha256.{words, rounds, schedule, sum, compressed, absorbed}
+use Rattle.compression.specs.Sha256.{words, rounds, schedule, sum, compressed, processed}
 use Rattle.compression.proofs.Schedules.{by-fours, length-following}
 use Rattle.compression.proofs.Turns.{all-turns}
 
@@ -23,9 +23,9 @@ compressed-is block w0 w1 w2 w3 s s0 s1 s2 s3 h e0 e1 e2 e3 f0 f1 f2 f3 =
     let all = by-fours w0 w1 w2 w3 h e1 e2 e3 in
     cc
 
-pub absorbed-more : (m : List ℕ) (n : ℕ) (s t u : State) → t ≡ absorbed m n s
-    → u ≡ compressed t (take (64 * n + 64 - 64 * n) (drop (64 * n) m)) → u ≡ absorbed m (n + 1) s
-unfolding absorbed
-absorbed-more m n s t u e f =
+pub processed-more : (m : List ℕ) (n : ℕ) (s t u : State) → t ≡ processed m n s
+    → u ≡ compressed t (take (64 * n + 64 - 64 * n) (drop (64 * n) m)) → u ≡ processed m (n + 1) s
+unfolding processed
+processed-more m n s t u e f =
     let k : 64 * n + 64 - 64 * n ≡ 64 = omega arith in
     rw add-one cc

@@ -4,7 +4,7 @@ use mathlib.Core.List.{List, [], _∷_, _++_}
 use mathlib.Core.Path.{_≡_}
 use Prim.Native.Nat.{ℕ, zero, suc, _+_, _*_, _%_, _^_, _<_, _≤_}
 use lib.Dec.{eqb}
-use lib.ListN.{length, getD, take, drop}
+use lib.ListN.{length, getD, replicate}
 use Rattle.compression.specs.declared.state.State.{State}
 use Rattle.compression.specs.Sha256.{K, H0, bytes, zeros, padded}
 
@@ -41,10 +41,9 @@ pub record Constants : Type 0 where
 
 -- ---- the padding
 
--- A padded message is whole blocks; it is the message, a byte that begins with the bit 1, the fewest zeros that will do, and the length in bits.
+-- A padded message is the message, a byte with the bit 1 in front, bytes 0, and the length in bits in eight bytes; it is whole blocks, and no
+-- fewer bytes 0 would do.
 pub record Padding (m : List ℕ) : Type 0 where
+  pub parts : padded m ≡ m ++ 0x80 ∷ (replicate (zeros (length m)) 0 ++ bytes 8 (8 * length m))
   pub whole : length (padded m) % 64 ≡ 0
-  pub front : take (length m) (padded m) ≡ m
-  pub bit : getD (padded m) (length m) 0 ≡ 0x80
   pub fewest : (k : ℕ) → (length m + 1 + k + 8) % 64 ≡ 0 → zeros (length m) ≤ k
-  pub field : length m < 2 ^ 61 → drop (length m + 1 + zeros (length m)) (padded m) ≡ bytes 8 (8 * length m)

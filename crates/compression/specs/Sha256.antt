@@ -39,9 +39,9 @@ ROTR n x = bitOr (x / 2 ^ n) (x * 2 ^ (32 - n) % 2 ^ 32)
 unfoldable pub zeros : ℕ → ℕ
 zeros n = (119 - n % 64) % 64
 
--- The RFC has messages of less than 2 ^ 64 bits. Of a longer one's length the eight bytes hold the lowest 64 bits.
+-- The RFC has messages of less than 2 ^ 64 bits. Of a longer one's length the eight bytes would have the lowest 64 bits.
 unfoldable pub padding : ℕ → List ℕ
-padding n = 0x80 ∷ (replicate (zeros n) 0 ++ bytes 8 (8 * n % 2 ^ 64))
+padding n = 0x80 ∷ (replicate (zeros n) 0 ++ bytes 8 (8 * n))
 
 unfoldable pub padded : List ℕ → List ℕ
 padded m = m ++ padding (length m)
@@ -99,7 +99,7 @@ H0 = record {
   h = 0x5be0_cd19;
 }
 
--- ---- section 6.2, one block after the other
+-- ---- section 6.2, one block after the other: the state is the RFC's H(i), and within a block its working variables a to h
 
 -- step 1: the schedule W, which begins with the sixteen words of the block
 unfoldable pub words : List ℕ → ℕ → List ℕ
@@ -110,7 +110,7 @@ words block (suc t) = words block t ++ word block t ∷ []
 unfoldable pub nextWord : ℕ → ℕ → ℕ → ℕ → ℕ
 nextWord w2 w7 w15 w16 = add (add (add (SSIG1 w2) w7) (SSIG0 w15)) w16
 
--- n words more
+-- n words more. The word after these is W_t with t = n + 16, so those 2, 7, 15 and 16 places before it are at n + 14, n + 9, n + 1 and n.
 unfoldable pub extended : List ℕ → ℕ → List ℕ
 extended w zero = w
 extended w (suc n) =
@@ -121,7 +121,7 @@ extended w (suc n) =
 unfoldable pub schedule : List ℕ → List ℕ
 schedule block = extended (words block 16) 48
 
--- step 3: one round with K_t and W_t
+-- steps 2 and 3: the working variables begin as the state; one round with K_t and W_t
 unfoldable pub T1 : State → ℕ → ℕ → ℕ
 T1 s k w = add (add (add (add (s .h) (BSIG1 (s .e))) (CH (s .e) (s .f) (s .g))) k) w
 
@@ -162,9 +162,9 @@ unfoldable pub compressed : State → List ℕ → State
 compressed s block = sum s (rounds (schedule block) 64 s)
 
 -- the state after the first n blocks of a list of bytes
-unfoldable pub absorbed : List ℕ → ℕ → State → State
-absorbed m zero s = s
-absorbed m (suc n) s = compressed (absorbed m n s) (take 64 (drop (64 * n) m))
+unfoldable pub processed : List ℕ → ℕ → State → State
+processed m zero s = s
+processed m (suc n) s = compressed (processed m n s) (take 64 (drop (64 * n) m))
 
 -- the digest: the words of the state after the last block
 unfoldable pub output : State → List ℕ
@@ -173,4 +173,4 @@ output s =
     ++ (bytes 4 (s .e) ++ (bytes 4 (s .f) ++ (bytes 4 (s .g) ++ bytes 4 (s .h)))))))
 
 unfoldable pub digest : List ℕ → List ℕ
-digest m = output (absorbed (padded m) (length (padded m) / 64) H0)
+digest m = output (processed (padded m) (length (padded m) / 64) H0)

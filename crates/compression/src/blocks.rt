@@ -2,7 +2,7 @@
 ghost use mathlib.Core.Path.{_≡_};
 ghost use Prim.Native.Nat.{_/_};
 ghost use lib.ListN.{length};
-ghost use Rattle.compression.specs.Sha256.{sum, compressed, absorbed};
+ghost use Rattle.compression.specs.Sha256.{sum, compressed, processed};
 use crate::rounds::sixteen_rounds;
 use crate::schedule::first_words;
 use crate::state::State;
@@ -35,8 +35,8 @@ fn compress(s: State, block: &[u8]) -> State
 }
 
 // The state after the whole blocks of `bytes`.
-pub fn absorb(start: State, bytes: &[u8]) -> State
-    ensures { λ r. ⌜ r ≡ absorbed (now (bytes .entry)) (length (now (bytes .entry)) / 64) start ⌝ }
+pub fn process(start: State, bytes: &[u8]) -> State
+    ensures { λ r. ⌜ r ≡ processed (now (bytes .entry)) (length (now (bytes .entry)) / 64) start ⌝ }
 {
     let mut s = start;
     for i in 0..bytes.len() / 64 {

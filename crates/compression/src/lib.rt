@@ -1,4 +1,4 @@
-// The compression function of SHA-256: one block of a message after the other turns the state.
+// The compression function of SHA-256: one block of a message after the other changes the state.
 mod blocks;
 mod rounds;
 mod schedule;
@@ -6,6 +6,6 @@ mod state;
 pub mod theorems;
 mod words;
 
-pub use blocks::absorb;
+pub use blocks::process;
 pub use state::State;
 pub use words::initial;

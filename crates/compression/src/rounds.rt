@@ -47,8 +47,8 @@ fn round(s: State, t: usize, w: u32) -> State
     }
 }
 
-// The round `t` with its word, and the word sixteen places after that, by those 15, 7 and 2 places before it. The word comes before the
-// round: so it stands in the compiled code, and that is the faster order.
+// The round `t` with its word, and the word sixteen places after that, by those 15, 7 and 2 places before it. The word is computed
+// before the round: the compiled code keeps that order, and it is the faster one.
 fn step(s: State, t: usize, w16: u32, w15: u32, w7: u32, w2: u32) -> (State, u32)
     requires { ⌜ t < 64 ⌝ }
     ensures state { λ r. ⌜ r .0 ≡ oneRound s (getD K t 0) w16 ⌝ }

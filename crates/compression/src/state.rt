@@ -1,4 +1,4 @@
-// The eight words that each block of a message turns.
+// The eight words that each block of a message changes; within a block, the working variables.
 #[derive(Clone, Copy)]
 pub struct State {
     pub a: u32,

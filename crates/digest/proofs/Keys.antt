@@ -13,7 +13,7 @@ use Rattle.std.proofs.shelf.Tests.{cond-both, ltb-false}
 use Rattle.std.specs.declared.result.Result.{Result}
 use Rattle.std.specs.declared.result.Result.the-variants.{Ok, Err}
 use Rattle.compression.specs.declared.state.State.{State}
-use Rattle.compression.specs.Sha256.{H0, absorbed, digest}
+use Rattle.compression.specs.Sha256.{H0, processed, digest}
 use Rattle.digest.specs.declared.hasher.Hasher.{Hasher}
 use Rattle.digest.specs.declared.hasher.TooLong.{TooLong}
 use Rattle.digest.specs.declared.hmac.Hmac.{Hmac}
@@ -66,12 +66,15 @@ unfolding masked
 masked-is pad k block m eb em = em ∙ ap (map (λ b. bitXor b pad)) eb
 
 -- the state after the key's block
-pub after-key : (pad : ℕ) (k block m : List ℕ) (s0 s : State) → block ≡ keyBlock k → m ≡ map (λ b. bitXor b pad) block → s0 ≡ H0
-    → s ≡ absorbed m (length m / 64) s0 → s ≡ absorbed (masked pad k) 1 H0
-after-key pad k block m s0 s eb em e0 e =
-    let em′ = masked-is pad k block m eb em in
-    let one : length m / 64 ≡ 1 = omega (arith, ap length em′, length-masked pad k) in
-    e ∙ ap₂ (λ v n. absorbed v n s0) em′ one ∙ ap (absorbed (masked pad k) 1) e0
+pub after-block : (m : List ℕ) (s0 s : State) → length m ≡ 64 → s0 ≡ H0 → s ≡ processed m (length m / 64) s0 → s ≡ processed m 1 H0
+after-block m s0 s l e0 e =
+    let one : length m / 64 ≡ 1 = omega arith in
+    e ∙ ap₂ (λ n t. processed m n t) one e0
+
+pub after-key : (pad : ℕ) (k block : List ℕ) (s : State) → block ≡ keyBlock k → s ≡ processed (map (λ b. bitXor b pad) block) 1 H0
+    → s ≡ processed (masked pad k) 1 H0
+unfolding masked
+after-key pad k block s eb e = e ∙ ap (λ v. processed (map (λ b. bitXor b pad) v) 1 H0) eb
 
 -- an update of the inner hasher
 pub updates : (k part : List ℕ) (g h : Hasher) (outer : State) (r : Result Unit TooLong) → Updated Took (2 ^ 61) g part r h

@@ -9,13 +9,13 @@ use lib.ListN.{length, set, take, drop, replicate}
 use Rattle.std.proofs.shelf.Lists.{length-append, length-take, length-drop, length-replicate, take-append-le, drop-append-le, drop-drop, drop-at, take-at, set-at, take-append-drop, drop-replicate, take-rest, replicate-append-replicate}
 use Rattle.compression.specs.declared.state.State.{State}
 use Rattle.compression.proofs.Padded.{length-bytes, length-padding}
-use Rattle.compression.specs.Sha256.{H0, bytes, zeros, padding, padded, compressed, absorbed, output, digest}
+use Rattle.compression.specs.Sha256.{H0, bytes, zeros, padding, padded, compressed, processed, output, digest}
 
 -- ---- blocks of lists that are joined
 
 -- blocks that lie in the first
-pub front : (x y : List ℕ) (n : ℕ) (s : State) → 64 * n ≤ length x → absorbed (x ++ y) n s ≡ absorbed x n s
-unfolding absorbed
+pub front : (x y : List ℕ) (n : ℕ) (s : State) → 64 * n ≤ length x → processed (x ++ y) n s ≡ processed x n s
+unfolding processed
 front x y zero s h = refl
 front x y (suc n) s h =
     let i : 64 * n ≤ length x = omega arith in
@@ -24,8 +24,8 @@ front x y (suc n) s h =
     (ap (take 64) (drop-append-le (64 * n) x y i) ∙ take-append-le 64 (drop (64 * n) x) y j)
 
 -- blocks of the second, after the first, which is n blocks
-pub back : (x y : List ℕ) (n k : ℕ) (s : State) → length x ≡ 64 * n → absorbed (x ++ y) (n + k) s ≡ absorbed y k (absorbed x n s)
-unfolding absorbed
+pub back : (x y : List ℕ) (n k : ℕ) (s : State) → length x ≡ 64 * n → processed (x ++ y) (n + k) s ≡ processed y k (processed x n s)
+unfolding processed
 back x y n zero s h = rw add-zero (front x y n s (omega arith))
 back x y n (suc k) s h =
     let i : 64 * (n + k) ≡ 64 * n + 64 * k = omega arith in
@@ -89,19 +89,33 @@ output-is s =
     ap₂ _++_ (four-is (s .a)) (ap₂ _++_ (four-is (s .b)) (ap₂ _++_ (four-is (s .c)) (ap₂ _++_ (four-is (s .d))
     (ap₂ _++_ (four-is (s .e)) (ap₂ _++_ (four-is (s .f)) (ap₂ _++_ (four-is (s .g)) (four-is (s .h))))))))
 
+-- eight bytes hold the lowest 64 bits
+eight-of : (n : ℕ) → bytes 8 (n % 2 ^ 64) ≡ bytes 8 n
+eight-of n =
+    let b7 : n % 2 ^ 64 / 2 ^ 56 % 256 ≡ n / 2 ^ 56 % 256 = omega arith in
+    let b6 : n % 2 ^ 64 / 2 ^ 48 % 256 ≡ n / 2 ^ 48 % 256 = omega arith in
+    let b5 : n % 2 ^ 64 / 2 ^ 40 % 256 ≡ n / 2 ^ 40 % 256 = omega arith in
+    let b4 : n % 2 ^ 64 / 2 ^ 32 % 256 ≡ n / 2 ^ 32 % 256 = omega arith in
+    let b3 : n % 2 ^ 64 / 2 ^ 24 % 256 ≡ n / 2 ^ 24 % 256 = omega arith in
+    let b2 : n % 2 ^ 64 / 2 ^ 16 % 256 ≡ n / 2 ^ 16 % 256 = omega arith in
+    let b1 : n % 2 ^ 64 / 2 ^ 8 % 256 ≡ n / 2 ^ 8 % 256 = omega arith in
+    let b0 : n % 2 ^ 64 % 256 ≡ n % 256 = omega arith in
+    let same : eight (n % 2 ^ 64) ≡ eight n = cc in
+    sym (eight-is (n % 2 ^ 64)) ∙ same ∙ eight-is n
+
 zeros-of-rest : (n : ℕ) → zeros (n % 64) ≡ zeros n
 unfolding zeros
 zeros-of-rest n = omega arith
 
--- `first` is a blocks; of `rest` the whole blocks are absorbed where they stand, and what is left stands in `last` with the padding
+-- `first` is a blocks; of `rest` the whole blocks are processed where they stand, and what is left stands in `last` with the padding
 pub closes : (first rest last : List ℕ) (a end bits : ℕ) (s s1 s2 : State)
-    → length first ≡ 64 * a → s ≡ absorbed first a H0
+    → length first ≡ 64 * a → s ≡ processed first a H0
     → bits ≡ 8 * (length first + length rest) % 2 ^ 64
     → end ≡ length rest % 64 + 1 + zeros (length rest % 64) + 8
     → (let left = take (length rest - (length rest - length rest % 64)) (drop (length rest - length rest % 64) rest) in
     take end last ≡ left ++ 0x80 ∷ (replicate (end - 9 - length left) 0 ++ bytes 8 bits))
-    → s1 ≡ absorbed rest (length rest / 64) s
-    → s2 ≡ absorbed (take (end - 0) last) (length (take (end - 0) last) / 64) s1
+    → s1 ≡ processed rest (length rest / 64) s
+    → s2 ≡ processed (take (end - 0) last) (length (take (end - 0) last) / 64) s1
     → output s2 ≡ digest (first ++ rest)
 unfolding digest padded padding
 closes first rest last a end bits s s1 s2 h es eb ee el e1 e2 =
@@ -121,22 +135,22 @@ closes first rest last a end bits s s1 s2 h es eb ee el e1 e2 =
     let zk : end - 9 - length left ≡ zeros n = omega arith in
     let ey : take end last ≡ y =
     el ∙ ap (λ v. v ++ 0x80 ∷ (replicate (end - 9 - length v) 0 ++ bytes 8 bits)) same-left
-    ∙ ap₂ (λ k v. left ++ 0x80 ∷ (replicate k 0 ++ bytes 8 v)) zk (eb ∙ ap (λ k. 8 * k % 2 ^ 64) (sym ln)) in
+    ∙ ap₂ (λ k v. left ++ 0x80 ∷ (replicate k 0 ++ v)) zk (ap (bytes 8) (eb ∙ ap (λ k. 8 * k % 2 ^ 64) (sym ln)) ∙ eight-of (8 * n)) in
     let i : end - 0 ≡ end = omega arith in
     let ly : length y ≡ end = length-append left (padding n) ∙ omega (arith, length-padding n) in
-    let f1 : s1 ≡ absorbed (take w rest) b s =
-    e1 ∙ ap (λ v. absorbed v b s) (sym (take-append-drop w rest)) ∙ front (take w rest) left b s (omega arith) in
-    let f2 : s2 ≡ absorbed y (length y / 64) s1 = e2 ∙ ap (λ v. absorbed v (length v / 64) s1) (ap (λ k. take k last) i ∙ ey) in
-    let g1 : absorbed x (a + b) H0 ≡ s1 = back first (take w rest) a b H0 h ∙ ap (absorbed (take w rest) b) (sym es) ∙ sym f1 in
-    let g2 : absorbed (x ++ y) (a + b + length y / 64) H0 ≡ s2 =
-    back x y (a + b) (length y / 64) H0 lx ∙ ap (absorbed y (length y / 64)) g1 ∙ sym f2 in
+    let f1 : s1 ≡ processed (take w rest) b s =
+    e1 ∙ ap (λ v. processed v b s) (sym (take-append-drop w rest)) ∙ front (take w rest) left b s (omega arith) in
+    let f2 : s2 ≡ processed y (length y / 64) s1 = e2 ∙ ap (λ v. processed v (length v / 64) s1) (ap (λ k. take k last) i ∙ ey) in
+    let g1 : processed x (a + b) H0 ≡ s1 = back first (take w rest) a b H0 h ∙ ap (processed (take w rest) b) (sym es) ∙ sym f1 in
+    let g2 : processed (x ++ y) (a + b + length y / 64) H0 ≡ s2 =
+    back x y (a + b) (length y / 64) H0 lx ∙ ap (processed y (length y / 64)) g1 ∙ sym f2 in
     let joined : x ++ y ≡ (first ++ rest) ++ padding n =
     append-assoc first (take w rest) y
     ∙ ap (λ v. first ++ v) (sym (append-assoc (take w rest) left (padding n)) ∙ ap (λ v. v ++ padding n) (take-append-drop w rest))
     ∙ sym (append-assoc first rest (padding n)) in
     let count : a + b + length y / 64 ≡ length ((first ++ rest) ++ padding n) / 64 =
     omega (arith, sym (ap length joined), length-append x y) in
-    ap output (sym g2 ∙ ap₂ (λ v k. absorbed v k H0) joined count)
+    ap output (sym g2 ∙ ap₂ (λ v k. processed v k H0) joined count)
 
 -- a digest has 32 bytes
 pub length-digest : (m : List ℕ) → length (digest m) ≡ 32

@@ -6,7 +6,7 @@ use native.Mathlib.Omega.{arith}
 use lib.ListN.{length, take, drop}
 use Rattle.std.proofs.shelf.Lists.{length-append, length-take, length-drop, take-append-le, drop-append-le, take-at, take-all, take-append-drop, take-rest, drop-at, drop-all, drop-drop}
 use Rattle.compression.specs.declared.state.State.{State}
-use Rattle.compression.specs.Sha256.{H0, compressed, absorbed}
+use Rattle.compression.specs.Sha256.{H0, compressed, processed}
 use Rattle.digest.specs.Taken.{After}
 use Rattle.digest.proofs.Messages.{front, back}
 
@@ -19,11 +19,11 @@ written u old new part h e =
     ∙ take-at (take u old ++ part) (drop (u + length part) old) (u + length part) l
 
 -- the whole blocks of what was taken
-pub blocks-of : (m : List ℕ) → absorbed m (length m / 64) H0 ≡ absorbed (take (64 * (length m / 64)) m) (length m / 64) H0
+pub blocks-of : (m : List ℕ) → processed m (length m / 64) H0 ≡ processed (take (64 * (length m / 64)) m) (length m / 64) H0
 blocks-of m =
     let q = length m / 64 in
     let l : length (take (64 * q) m) ≡ 64 * q = simp length-take (omega arith) in
-    ap (λ v. absorbed v q H0) (sym (take-append-drop (64 * q) m)) ∙ front (take (64 * q) m) (drop (64 * q) m) q H0 (omega arith)
+    ap (λ v. processed v q H0) (sym (take-append-drop (64 * q) m)) ∙ front (take (64 * q) m) (drop (64 * q) m) q H0 (omega arith)
 
 -- the write at the place that the count gives
 placed : (n : ℕ) (old new m part : List ℕ) → n ≡ length m
@@ -45,7 +45,7 @@ kept s n old new m part lo h t e =
     let now-is = written u old new part (omega arith) (placed n old new m part hm e) in
     record {
       long = omega arith;
-      whole = t .whole ∙ sym (front m part q H0 (omega arith)) ∙ ap (λ k. absorbed (m ++ part) k H0) (sym eq);
+      whole = t .whole ∙ sym (front m part q H0 (omega arith)) ∙ ap (λ k. processed (m ++ part) k H0) (sym eq);
       rest =
           ap (λ k. take k new) eu ∙ now-is ∙ ap (λ v. v ++ part) (t .rest) ∙ sym (drop-append-le (64 * q) m part (omega arith))
           ∙ ap (λ k. drop (64 * k) (m ++ part)) (sym eq);
@@ -54,7 +54,7 @@ kept s n old new m part lo h t e =
 -- a part that comes just to the end of a block
 pub completed : (s s1 : State) (n : ℕ) (old new m part : List ℕ) → length old ≡ 64 → n % 64 + length part ≡ 64 → After m s old n
     → new ≡ take (n % 64) old ++ (part ++ drop (n % 64 + length part) old)
-    → s1 ≡ absorbed new (length new / 64) s
+    → s1 ≡ processed new (length new / 64) s
     → After (m ++ part) s1 new (n + length part)
 completed s s1 n old new m part lo h t e es =
     let q = length m / 64 in
@@ -77,18 +77,18 @@ completed s s1 n old new m part lo h t e es =
     record {
       long = omega arith;
       whole =
-          es ∙ ap₂ (λ v k. absorbed v k s) ey one ∙ ap (absorbed y 1) (t .whole ∙ ex) ∙ sym (back x y q 1 H0 lx)
-          ∙ ap₂ (λ v k. absorbed v k H0) exy (sym eq);
+          es ∙ ap₂ (λ v k. processed v k s) ey one ∙ ap (processed y 1) (t .whole ∙ ex) ∙ sym (back x y q 1 H0 lx)
+          ∙ ap₂ (λ v k. processed v k H0) exy (sym eq);
       rest = ap (λ k. take k new) eu ∙ sym (drop-all (64 * (length (m ++ part) / 64)) (m ++ part) (omega arith));
     }
 
 -- a part that begins with a block
-pub absorbs : (s s1 : State) (n : ℕ) (old new m part rest : List ℕ) → length old ≡ 64 → n % 64 ≡ 0 → After m s old n
+pub processes : (s s1 : State) (n : ℕ) (old new m part rest : List ℕ) → length old ≡ 64 → n % 64 ≡ 0 → After m s old n
     → rest ≡ drop (length part - length part % 64) part
     → new ≡ take 0 old ++ (rest ++ drop (0 + length rest) old)
-    → s1 ≡ absorbed part (length part / 64) s
+    → s1 ≡ processed part (length part / 64) s
     → After (m ++ part) s1 new (n + length part)
-absorbs s s1 n old new m part rest lo h t er e es =
+processes s s1 n old new m part rest lo h t er e es =
     let q = length m / 64 in
     let k = length part / 64 in
     let w = length part - length part % 64 in
@@ -103,7 +103,7 @@ absorbs s s1 n old new m part rest lo h t er e es =
     ap (λ j. drop j (m ++ part)) i ∙ sym (drop-drop w (64 * q) (m ++ part)) ∙ ap (drop w) (drop-at m part (64 * q) lm) ∙ sym er in
     record {
       long = omega arith;
-      whole = es ∙ ap (absorbed part k) (t .whole) ∙ sym (back m part q k H0 lm) ∙ ap (λ j. absorbed (m ++ part) j H0) (sym eq);
+      whole = es ∙ ap (processed part k) (t .whole) ∙ sym (back m part q k H0 lm) ∙ ap (λ j. processed (m ++ part) j H0) (sym eq);
       rest =
           ap (λ j. take j new) eu ∙ written 0 old new rest (omega arith) e ∙ sym ed ∙ ap (λ j. drop (64 * j) (m ++ part)) (sym eq);
     }

@@ -15,7 +15,7 @@ filled k = k ++ replicate (64 - length k) 0
 unfoldable pub keyBlock : List ℕ → List ℕ
 keyBlock k = cond (ltb 64 (length k)) (filled (digest k)) (filled k)
 
--- the key's block with each byte changed by a pad
+-- the key's block, each byte XORed with a pad
 unfoldable pub masked : ℕ → List ℕ → List ℕ
 masked pad k = map (λ b. bitXor b pad) (keyBlock k)
 

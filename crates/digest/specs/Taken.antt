@@ -6,14 +6,14 @@ use lib.ListN.{length, take, drop}
 use Rattle.std.specs.declared.result.Result.{Result}
 use Rattle.std.specs.declared.result.Result.the-variants.{Ok, Err}
 use Rattle.compression.specs.declared.state.State.{State}
-use Rattle.compression.specs.Sha256.{H0, absorbed}
+use Rattle.compression.specs.Sha256.{H0, processed}
 use Rattle.digest.specs.declared.hasher.Hasher.{Hasher}
 use Rattle.digest.specs.declared.hasher.TooLong.{TooLong}
 
 -- After the message m: the state is that after the whole blocks of m, and the bytes after these are pending.
 pub record After (m : List ℕ) (state : State) (pending : List ℕ) (count : ℕ) : Type 0 where
   pub long : count ≡ length m
-  pub whole : state ≡ absorbed m (length m / 64) H0
+  pub whole : state ≡ processed m (length m / 64) H0
   pub rest : take (length m % 64) pending ≡ drop (64 * (length m / 64)) m
 
 -- the hasher has taken the message m

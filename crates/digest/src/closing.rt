@@ -1,12 +1,12 @@
 // The end of a message: the padding, the last blocks and the digest.
 ghost use mathlib.Core.List.{_∷_, _++_};
 ghost use mathlib.Core.Path.{_≡_};
-ghost use Prim.Native.Nat.{_+_, _-_, _*_, _%_, _^_, _<_, _≤_};
+ghost use Prim.Native.Nat.{_+_, _-_, _^_, _<_, _≤_};
 ghost use lib.ListN.{length, take, drop, replicate};
 ghost use Rattle.compression.specs.Sha256.{bytes, zeros, output};
 ghost use Rattle.digest.specs.Closing.{Closes};
 use compression::State;
-use compression::absorb;
+use compression::process;
 
 // Writes `part` over what stands at `at` and after.
 pub(crate) fn put(out: &mut [u8], at: usize, part: &[u8])
@@ -93,5 +93,5 @@ pub(crate) fn close(state: State, before: u64, rest: &[u8]) -> [u8; 32]
     let bits = (before + rest.len() as u64).wrapping_mul(8);
     let end = padded_len(rest.len() % 64);
     let last = last_blocks(&rest[whole..], end, bits);
-    to_bytes(absorb(absorb(state, rest), &last[0..end]))
+    to_bytes(process(process(state, rest), &last[0..end]))
 }

@@ -1,9 +1,10 @@
-// HMAC-SHA-256: a digest that only who has the key can make.
+// HMAC-SHA-256: the digest of a message under a key, its tag.
 ghost use mathlib.Core.List.{List, [], map};
 ghost use mathlib.Core.Path.{_≡_};
 ghost use Prim.Native.Nat.{ℕ, _-_, _^_};
 ghost use lib.Bits.{bitXor};
-ghost use Rattle.digest.specs.Hmac.{keyBlock, hmac as code};
+ghost use Rattle.compression.specs.Sha256.{H0, processed};
+ghost use Rattle.digest.specs.Hmac.{keyBlock, hmac as tag};
 ghost use Rattle.digest.specs.Keyed.{Keyed};
 ghost use Rattle.digest.specs.Taken.{Updated};
 use crate::closing::close;
@@ -12,8 +13,8 @@ use crate::hasher::Hasher;
 use crate::hasher::TooLong;
 use crate::hasher::sums::sha256;
 use compression::State;
-use compression::absorb;
 use compression::initial;
+use compression::process;
 
 const INNER_PAD: u8 = 0x36;
 
@@ -49,6 +50,13 @@ fn mask(block: [u8; 64], pad: u8) -> [u8; 64]
     masked
 }
 
+// The state after the key's block, each byte of it XORed with a pad.
+fn after_key(block: [u8; 64], pad: u8) -> State
+    ensures { λ r. ⌜ r ≡ processed (map (λ b. bitXor b pad) block) 1 H0 ⌝ }
+{
+    process(initial(), &mask(block, pad))
+}
+
 impl Hmac {
     // An HMAC under `key` that has taken nothing yet.
     pub fn new(key: &[u8]) -> Hmac
@@ -59,7 +67,7 @@ impl Hmac {
         inner.take(&mask(block, INNER_PAD));
         Hmac {
             inner,
-            outer: absorb(initial(), &mask(block, OUTER_PAD)),
+            outer: after_key(block, OUTER_PAD),
         }
     }
 
@@ -70,19 +78,19 @@ impl Hmac {
         self.inner.update(part)
     }
 
-    // The code of what was taken.
+    // The tag of what was taken.
     pub fn finish(self) -> [u8; 32]
-        ensures { λ r. ⌜ ((k m : List ℕ) → Keyed k self m → r ≡ code k m) ⌝ }
+        ensures { λ r. ⌜ ((k m : List ℕ) → Keyed k self m → r ≡ tag k m) ⌝ }
     {
         close(self.outer, 64, &self.inner.finish())
     }
 }
 
-// The code of a whole message.
+// The tag of a whole message.
 pub fn hmac_sha256(key: &[u8], message: &[u8]) -> [u8; 32]
-    ensures { λ r. ⌜ r ≡ code (now (key .entry)) (now (message .entry)) ⌝ }
+    ensures { λ r. ⌜ r ≡ tag (now (key .entry)) (now (message .entry)) ⌝ }
 {
     let block = key_block(key);
-    let inner = close(absorb(initial(), &mask(block, INNER_PAD)), 64, message);
-    close(absorb(initial(), &mask(block, OUTER_PAD)), 64, &inner)
+    let inner = close(after_key(block, INNER_PAD), 64, message);
+    close(after_key(block, OUTER_PAD), 64, &inner)
 }

@@ -1,7 +1,7 @@
 // What a hasher does, and the digest of a whole message.
-ghost use mathlib.Core.List.{[], _++_};
+ghost use mathlib.Core.List.{List, []};
 ghost use mathlib.Core.Path.{_≡_};
-ghost use Prim.Native.Nat.{_+_, _-_, _*_, _%_, _^_, _<_, _≤_};
+ghost use Prim.Native.Nat.{ℕ, _+_, _%_, _^_, _<_};
 ghost use lib.ListN.{length};
 ghost use Rattle.compression.specs.Sha256.{digest};
 ghost use Rattle.digest.specs.Taken.{Took, Takes, Updated};
@@ -9,8 +9,8 @@ use crate::closing::close;
 use crate::closing::put;
 use crate::hasher::Hasher;
 use crate::hasher::TooLong;
-use compression::absorb;
 use compression::initial;
+use compression::process;
 
 // A message has fewer bytes than this.
 const LIMIT: u64 = 1 << 61;
@@ -40,7 +40,7 @@ impl Hasher {
 
     // The digest of what was taken.
     pub fn finish(self) -> [u8; 32]
-        ensures { λ r. ⌜ ((m : _) → Took self m → r ≡ digest m) ⌝ }
+        ensures { λ r. ⌜ ((m : List ℕ) → Took self m → r ≡ digest m) ⌝ }
     {
         let used = (self.count % 64) as usize;
         close(self.state, self.count - used as u64, &self.pending[0..used])
@@ -77,17 +77,17 @@ impl Hasher {
         ensures count { λ _. ⌜ now (self .exit) .count ≡ now (self .entry) .count + length (now (part .entry)) ⌝ }
     {
         put(&mut self.pending, (self.count % 64) as usize, part);
-        self.state = absorb(self.state, &self.pending);
+        self.state = process(self.state, &self.pending);
         self.count += part.len() as u64;
     }
 
-    // A part that begins with a block: its whole blocks are absorbed where they stand.
+    // A part that begins with a block: its whole blocks are processed where they stand.
     fn take_blocks(&mut self, part: &[u8])
         requires { ⌜ now self .count % 64 ≡ 0 ⌝ ∗ ⌜ now self .count + length (now part) < 2 ^ 61 ⌝ }
         ensures { λ _. ⌜ Takes (now (self .entry)) (now (part .entry)) (now (self .exit)) ⌝ }
     {
         let whole = part.len() - part.len() % 64;
-        self.state = absorb(self.state, part);
+        self.state = process(self.state, part);
         put(&mut self.pending, 0, &part[whole..]);
         self.count += part.len() as u64;
     }

@@ -17,4 +17,4 @@ pub returns : need.returns
 returns c = λ first n count whole state.
     c .to-bytes .ensures
     ∙ closes first (c .args .rest .now) _ n _ _ (c .args .state) _ _ whole state (omega arith) (c .padded-len-end .ensures .value)
-    (c .last-blocks-last .ensures) (c .absorb .ensures) (c .absorb-2 .ensures)
+    (c .last-blocks-last .ensures) (c .process .ensures) (c .process-2 .ensures)

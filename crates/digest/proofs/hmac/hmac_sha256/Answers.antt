@@ -11,7 +11,7 @@ returns c =
     let k = c .args .key .now in
     let li = length-masked ipad k in
     let lo = length-masked opad k in
-    let inside = after-key ipad k _ _ _ _ (c .key-block-block .ensures) (c .mask .ensures) (c .initial .ensures) (c .absorb .ensures) in
-    let outside = after-key opad k _ _ _ _ (c .key-block-block .ensures) (c .mask-2 .ensures) (c .initial-2 .ensures) (c .absorb-2 .ensures) in
+    let inside = after-key ipad k _ _ (c .key-block-block .ensures) (c .after-key .ensures) in
+    let outside = after-key opad k _ _ (c .key-block-block .ensures) (c .after-key-2 .ensures) in
     c .close .ensures (masked opad k) 1 lo lo outside
     ∙ ap (λ v. digest (masked opad k ++ v)) (c .close-inner .ensures (masked ipad k) 1 li li inside)

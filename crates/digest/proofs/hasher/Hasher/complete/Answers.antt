@@ -8,7 +8,7 @@ returns c =
     let self = c .args .self .now in
     record {
       takes = λ m t.
-          completed (self .state) (c .absorb-self .result) (self .count) (self .pending) (c .put .last .out) m (c .args .part .now)
-          (search needs) (c .pre .0) t (c .put .ensures) (c .absorb-self .ensures);
+          completed (self .state) (c .process-self .result) (self .count) (self .pending) (c .put .last .out) m (c .args .part .now)
+          (search needs) (c .pre .0) t (c .put .ensures) (c .process-self .ensures);
       count = refl;
     }

@@ -1,8 +1,8 @@
 use mathlib.Core.List.{[]}
 use mathlib.Core.Path.{refl, _∙_}
-use Rattle.compression.specs.Sha256.{absorbed}
+use Rattle.compression.specs.Sha256.{processed}
 use Rattle.digest.proofs.hasher.sums.sha256.Needs as need
 
 pub returns : need.returns
-unfolding absorbed
+unfolding processed
 returns c = c .close .ensures [] 0 refl refl (c .initial .ensures)

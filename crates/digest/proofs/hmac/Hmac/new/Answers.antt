@@ -11,5 +11,5 @@ returns c =
     let same = masked-is ipad k _ _ (c .key-block-block .ensures) (c .mask .ensures) in
     record {
       inside = subst (Took (c .take .last .self)) (same ∙ sym (append-nil (masked ipad k))) (c .take .ensures [] (c .new-inner .ensures));
-      outside = after-key opad k _ _ _ _ (c .key-block-block .ensures) (c .mask-2 .ensures) (c .initial .ensures) (c .absorb .ensures);
+      outside = after-key opad k _ _ (c .key-block-block .ensures) (c .after-key .ensures);
     }
