@@ -1,5 +1,5 @@
--- Byte strings that are compared byte by byte, and by what differs in any of them.
-use mathlib.Core.Bool.{Bool, true, false, _&&_}
+-- Byte strings that are compared by what differs in any of their bytes.
+use mathlib.Core.Bool.{Bool, true, false}
 use mathlib.Core.List.{List, [], _∷_, _++_}
 use mathlib.Core.Path.{_≡_, refl, sym, ap, ap₂, _∙_}
 use Prim.Native.Nat.{ℕ, zero, suc, _+_, _*_, _<_}
@@ -8,28 +8,11 @@ use lib.Bits.{bitOr, bitXor, or-add-and, xor-add-and, and-le-l, and-le-r, xor-se
 use lib.Dec.{eqb}
 use lib.ListN.{length, getD, take}
 use Rattle.std.proofs.shelf.Lists.{take-more-same, take-all}
-use Rattle.std.proofs.shelf.Tests.{eqb-true, eq-eqb, and-parts, both-ways}
+use Rattle.std.proofs.shelf.Tests.{eqb-true, eq-eqb, both-ways}
+use Rattle.std.proofs.shelf.Equals.{sameBytes-decides}
 use Rattle.std.proofs.shelf.Ways.{same-from-decides}
 use Rattle.std.specs.Orderings.{Decides}
-use Rattle.signing.specs.Same.{same}
-
-pub same-self : (xs : List ℕ) → same xs xs ≡ true
-unfolding same
-same-self [] = refl
-same-self (x ∷ xs) = ap₂ _&&_ (eq-eqb x x refl) (same-self xs)
-
-equal : (xs ys : List ℕ) → same xs ys ≡ true → xs ≡ ys
-unfolding same
-equal [] [] e = refl
-equal [] (y ∷ ys) e = absurd (both-ways false refl e)
-equal (x ∷ xs) [] e = absurd (both-ways false refl e)
-equal (x ∷ xs) (y ∷ ys) e = let both = and-parts (eqb x y) (same xs ys) e in ap₂ _∷_ (eqb-true x y (both .0)) (equal xs ys (both .1))
-
--- `same` says whether two byte strings are equal
-pub tells : (xs ys : List ℕ) → Decides (same xs ys) (xs ≡ ys)
-tells xs ys = (equal xs ys, λ e. ap (same xs) (sym e) ∙ same-self xs)
-
--- ---- what differs in any byte
+use Rattle.std.specs.shelf.Text.{sameBytes}
 
 -- an `or` is 0 where both are
 or-none : (a b : ℕ) → bitOr a b ≡ 0 → (a ≡ 0) × (b ≡ 0)
@@ -73,5 +56,5 @@ by-difference d i xs ys l h s =
     let all = so-far-all d i xs ys l h s in
     (λ e. all .0 (eqb-true d 0 e), λ e. eq-eqb d 0 (all .1 e))
 
-pub told : (r : Bool) (xs ys : List ℕ) → Decides r (xs ≡ ys) → r ≡ same xs ys
-told r xs ys d = same-from-decides r (same xs ys) d (tells xs ys)
+pub told : (r : Bool) (xs ys : List ℕ) → Decides r (xs ≡ ys) → r ≡ sameBytes xs ys
+told r xs ys d = same-from-decides r (sameBytes xs ys) d (sameBytes-decides xs ys)

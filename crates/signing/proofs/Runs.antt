@@ -1,13 +1,14 @@
 -- Byte strings that carry their signature, in runs without forgery.
 use mathlib.Core.Bool.{Bool, true, false, not, _&&_}
-use mathlib.Core.List.{List, [], _∷_, _++_}
+use mathlib.Core.List.{List, [], _∷_, _++_, append-assoc}
 use mathlib.Core.Path.{_≡_, refl, sym, ap, ap₂, _∙_}
 use Prim.Native.Nat.{ℕ, suc, _+_, _-_, _<_, _≤_}
 use native.Mathlib.Omega.{arith}
 use borrow.Author.Tests.{lt-ltb, le-ltb}
+use borrow.Rule.Slice.PartMut.{putMid}
 use lib.Dec.{ltb}
 use lib.ListN.{length, getD, take, drop}
-use Rattle.std.proofs.shelf.Lists.{length-append, take-at, drop-at, take-rest}
+use Rattle.std.proofs.shelf.Lists.{length-append, length-take-le, take-at, drop-at, drop-drop, take-rest}
 use Rattle.std.proofs.shelf.Tests.{both-ways}
 use Rattle.signing.specs.Signed.{body, ending, carries, SignedBefore, Scheme}
 use Rattle.signing.specs.Unforged.{Use, Signs, Checks, Signed, Unforged}
@@ -31,10 +32,10 @@ module _ (accepts : List ℕ → List ℕ → Bool) where
       ap₂ accepts (ap (λ k. take k bytes) i) (take-rest bytes n ∙ ap (λ k. drop k bytes) e)
 
   pub before : (bytes : List ℕ) (r : Bool) → r ≡ accepts (body bytes) (ending bytes) → SignedBefore accepts bytes r
-  before bytes r e = λ past unforged accepted. unforged past [] (body bytes) (ending bytes) refl (sym e ∙ accepted)
+  before bytes r e = λ past later unforged accepted. unforged past later (body bytes) (ending bytes) refl (sym e ∙ accepted)
 
   pub never : (bytes : List ℕ) → SignedBefore accepts bytes false
-  never bytes = λ past unforged accepted. absurd (both-ways false refl accepted)
+  never bytes = λ past later unforged accepted. absurd (both-ways false refl accepted)
 
   -- ---- the scheme
 
@@ -79,3 +80,24 @@ module _ (accepts : List ℕ → List ℕ → Bool) where
 
     pub scheme : Scheme accepts signature
     scheme = record { carried = carried; guessed = guessed; signed = signed }
+
+    -- the signature of the first n bytes is written after them
+    module _ (n : ℕ) (old : List ℕ) where
+      pub sealed : (sig copied : List ℕ) → copied ≡ sig → sig ≡ signature (take (n - 0) old)
+          → putMid n (n + 64 - n) old copied ≡ take n old ++ (signature (take n old) ++ drop (n + 64) old)
+      sealed sig copied ec es =
+          let i : n - 0 ≡ n = omega arith in
+          let k : n + 64 - n ≡ 64 = omega arith in
+          ap₂ (λ u v. take n old ++ (u ++ v)) (ec ∙ es ∙ ap (λ j. signature (take j old)) i) (ap (λ j. drop j (drop n old)) k ∙ drop-drop 64 n old)
+
+      pub accepted : (new : List ℕ) → n + 64 ≤ length old → new ≡ take n old ++ (signature (take n old) ++ drop (n + 64) old)
+          → carries accepts (take (n + 64) new) ≡ true
+      accepted new h e =
+          let m = take n old in
+          let both = m ++ signature m in
+          let size = sized m in
+          let l : length m ≡ n = length-take-le n old (omega arith) in
+          let lb : length both ≡ n + 64 = length-append m (signature m) ∙ omega arith in
+          ap (carries accepts)
+          (ap (take (n + 64)) (e ∙ sym (append-assoc m (signature m) (drop (n + 64) old))) ∙ take-at both (drop (n + 64) old) (n + 64) lb)
+          ∙ carried m

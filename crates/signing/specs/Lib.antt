@@ -1,4 +1,3 @@
-pub mod Same
 pub mod Signed
 pub mod StandIn
 pub mod Unforged

@@ -1,4 +1,4 @@
--- The stand-in for a signature: two codes of 32 bytes, each under the key with a domain byte of its own after it. Assumes nothing.
+-- The stand-in for a signature: two tags of 32 bytes, each under the key with a domain byte of its own after it. Assumes nothing.
 use mathlib.Core.List.{List, [], _∷_, _++_}
 use Prim.Native.Nat.{ℕ}
 use Rattle.digest.specs.Hmac.{hmac}

@@ -4,7 +4,7 @@ ghost use mathlib.Core.List.{List};
 ghost use mathlib.Core.Path.{_≡_};
 ghost use Prim.Native.Nat.{ℕ};
 ghost use lib.ListN.{length};
-ghost use Rattle.signing.specs.Signed.{carries, SignedBefore, Scheme};
+ghost use Rattle.signing.specs.Signed.{carries, SignedBefore, Sealed, Accepted, Scheme};
 
 // A key that anybody may have: it says whether a signature is right for a byte string.
 pub trait VerifyingKey {
@@ -48,11 +48,17 @@ pub fn is_signed<K: VerifyingKey>(key: &K, bytes: &[u8]) -> bool
     key.verify(&bytes[0..n], &bytes[n..])
 }
 
-// Signs a message and holds the signature against the key: it is right, whatever the scheme.
-pub fn signed_is_accepted<S: SigningKey>(key: &S, message: &[u8]) -> bool
-    ensures answer { λ r. ⌜ r ≡ true ⌝ }
+// Signs the first `n` bytes of lent memory and writes the signature after them. The answer is where that ends, or `None` where it has no
+// room, and then nothing is written.
+pub fn seal<S: SigningKey>(key: &S, memory: &mut [u8], n: usize) -> Option<usize>
+    ensures memory { λ r. ⌜ Sealed (signature (now (key .entry))) n (now (memory .entry)) r (now (memory .exit)) ⌝ }
+    ensures accepted { λ r. ⌜ Accepted (Verifying·VerifyingKey .accepts (verifying (now (key .entry)))) r (now (memory .exit)) ⌝ }
     ensures scheme { λ _. ⌜ Scheme (Verifying·VerifyingKey .accepts (verifying (now (key .entry)))) (signature (now (key .entry))) ⌝ }
 {
-    let verifying = key.verifying_key();
-    verifying.verify(message, &key.sign(message))
+    if memory.len() < 64 || n > memory.len() - 64 {
+        return None;
+    }
+    let signature = key.sign(&memory[0..n]);
+    memory[n..n + 64].copy_from_slice(&signature);
+    Some(n + 64)
 }

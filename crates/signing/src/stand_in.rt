@@ -1,9 +1,8 @@
 // A stand-in for a signature scheme, for trials and programs: who can verify with its key can also sign with it.
-ghost use mathlib.Core.Bool.{Bool};
 ghost use mathlib.Core.List.{_++_};
 ghost use mathlib.Core.Path.{_≡_};
-ghost use Rattle.signing.specs.Same.{same};
-ghost use Rattle.signing.specs.StandIn.{half as code, standIn};
+ghost use Rattle.signing.specs.StandIn.{half as tag, standIn};
+ghost use Rattle.std.specs.shelf.Text.{sameBytes};
 use crate::keys::SigningKey;
 use crate::keys::VerifyingKey;
 use crate::same::same_bytes;
@@ -15,9 +14,9 @@ pub struct StandInKey {
     pub bytes: [u8; 32],
 }
 
-// The code of a message under the key with a domain byte after it.
+// The tag of a message under the key with a domain byte after it.
 fn half(key: &[u8; 32], domain: u8, message: &[u8]) -> [u8; 32]
-    ensures { λ r. ⌜ r ≡ code (now (key .entry)) domain (now (message .entry)) ⌝ }
+    ensures { λ r. ⌜ r ≡ tag (now (key .entry)) domain (now (message .entry)) ⌝ }
 {
     let mut keyed = [domain; 33];
     keyed[0..32].copy_from_slice(key);
@@ -34,7 +33,7 @@ fn join(first: &[u8; 32], second: &[u8; 32]) -> [u8; 64]
 }
 
 pub impl VerifyingKey for StandInKey as StandInVerifying {
-    ghost accepts = { λ k m s. same (standIn (k .bytes) m) s };
+    ghost accepts = { λ k m s. sameBytes (standIn (k .bytes) m) s };
 
     fn verify(&self, message: &[u8], signature: &[u8]) -> bool {
         same_bytes(&self.sign(message), signature)
