@@ -1,4 +1,4 @@
-// Holds digests and codes to published values.
+// Holds digests and HMAC tags to published values.
 use digest::Hasher;
 use digest::Hmac;
 use digest::TooLong;
@@ -20,7 +20,7 @@ Holds SHA-256 and HMAC-SHA-256 to the values in the files, each taken whole and 
 at the limits of a block, and prints a line for each. It ends with status 1 if one of them differs.
 
   sha256 NAME MESSAGE TIMES DIGEST    the digest of the message, repeated so many times
-  hmac NAME KEY MESSAGE CODE          the code of the message under the key, or as many of its
+  hmac NAME KEY MESSAGE TAG           the tag of the message under the key, or as many of its
                                       first bytes as are published
   # ..                                a comment
 
@@ -81,15 +81,13 @@ fn repeated(heap: Global, message: &[u8], times: u32) -> Result<Vec<u8>, AnyErro
 // Where a message is cut into parts: the limits of a block, of two, and of what leaves room for the length.
 const CUTS: [usize; 10] = [0, 1, 55, 56, 63, 64, 65, 119, 120, 128];
 
-// The digest of a message that comes `times` times, in as many parts; `None` if that gets too long.
-fn digest_of_times(message: &[u8], times: u32) -> Option<[u8; 32]> {
+// The digest of a message that comes `times` times, in as many parts.
+fn digest_of_times(message: &[u8], times: u32) -> Result<[u8; 32], TooLong> {
     let mut hasher = Hasher::new();
     for _ in 0..times {
-        let Ok(()) = hasher.update(message) else {
-            return None;
-        };
+        hasher.update(message)?;
     }
-    Some(hasher.finish())
+    Ok(hasher.finish())
 }
 
 // The digest of a message in three parts.
@@ -101,7 +99,7 @@ fn digest_in_parts(first: &[u8], second: &[u8], third: &[u8]) -> Result<[u8; 32]
     Ok(hasher.finish())
 }
 
-fn code_in_parts(
+fn tag_in_parts(
     key: &[u8],
     first: &[u8],
     second: &[u8],
@@ -114,8 +112,8 @@ fn code_in_parts(
     Ok(hmac.finish())
 }
 
-// Whether a digest is the published one wherever its message is cut in three.
-fn digest_cut_anywhere(message: &[u8], published: &[u8]) -> Result<bool, TooLong> {
+// Whether a digest is the published one with its message cut in three at any two of these places.
+fn digest_cut_at_limits(message: &[u8], published: &[u8]) -> Result<bool, TooLong> {
     for i in CUTS {
         for j in CUTS {
             if i <= j && j <= message.len() {
@@ -129,12 +127,12 @@ fn digest_cut_anywhere(message: &[u8], published: &[u8]) -> Result<bool, TooLong
     Ok(true)
 }
 
-// Whether a code begins with the published bytes wherever its message is cut in three.
-fn code_cut_anywhere(key: &[u8], message: &[u8], published: &[u8]) -> Result<bool, TooLong> {
+// Whether a tag begins with the published bytes with its message cut in three at any two of these places.
+fn tag_cut_at_limits(key: &[u8], message: &[u8], published: &[u8]) -> Result<bool, TooLong> {
     for i in CUTS {
         for j in CUTS {
             if i <= j && j <= message.len() {
-                let computed = code_in_parts(key, &message[0..i], &message[i..j], &message[j..])?;
+                let computed = tag_in_parts(key, &message[0..i], &message[i..j], &message[j..])?;
                 if !begins(&computed, published) {
                     return Ok(false);
                 }
@@ -148,7 +146,7 @@ fn begins(bytes: &[u8; 32], front: &[u8]) -> bool {
     front.len() <= 32 && &bytes[0..front.len()] == front
 }
 
-// Whether the digest that a line has is the one of its message, taken whole, by its repetitions and cut anywhere.
+// Whether the digest that a line has is the one of its message, taken whole, by its repetitions and cut at limits.
 fn digest_holds(heap: Global, words: &mut Words<'_>) -> Result<bool, AnyError> {
     let message = next_bytes(heap, words)?;
     let Ok(times) = words.number() else {
@@ -158,27 +156,27 @@ fn digest_holds(heap: Global, words: &mut Words<'_>) -> Result<bool, AnyError> {
     if published.len() != 32 {
         return Err("a digest has 32 bytes".into());
     }
-    let Some(by_times) = digest_of_times(message.as_slice(), times) else {
+    let Ok(by_times) = digest_of_times(message.as_slice(), times) else {
         return Ok(false);
     };
     let all = repeated(heap, message.as_slice(), times)?;
     let whole = sha256(all.as_slice());
-    let Ok(cut) = digest_cut_anywhere(all.as_slice(), published.as_slice()) else {
+    let Ok(cut) = digest_cut_at_limits(all.as_slice(), published.as_slice()) else {
         return Ok(false);
     };
     Ok(cut && begins(&whole, published.as_slice()) && begins(&by_times, published.as_slice()))
 }
 
-// Whether the code that a line has, or what is published of it, is the one of its message, taken whole and cut anywhere.
-fn code_holds(heap: Global, words: &mut Words<'_>) -> Result<bool, AnyError> {
+// Whether the tag that a line has, or what is published of it, is the one of its message, taken whole and cut at limits.
+fn tag_holds(heap: Global, words: &mut Words<'_>) -> Result<bool, AnyError> {
     let key = next_bytes(heap, words)?;
     let message = next_bytes(heap, words)?;
     let published = next_bytes(heap, words)?;
     if published.len() < 16 || published.len() > 32 {
-        return Err("a code has 16 to 32 bytes".into());
+        return Err("a tag has 16 to 32 bytes".into());
     }
     let whole = hmac_sha256(key.as_slice(), message.as_slice());
-    let Ok(cut) = code_cut_anywhere(key.as_slice(), message.as_slice(), published.as_slice()) else {
+    let Ok(cut) = tag_cut_at_limits(key.as_slice(), message.as_slice(), published.as_slice()) else {
         return Ok(false);
     };
     Ok(cut && begins(&whole, published.as_slice()))
@@ -193,7 +191,7 @@ fn hold(rt: &LibcRuntime, line: &[u8]) -> Result<bool, AnyError> {
     let holds = if kind == b"sha256" {
         digest_holds(heap, &mut words)?
     } else if kind == b"hmac" {
-        code_holds(heap, &mut words)?
+        tag_holds(heap, &mut words)?
     } else {
         return Err("sha256 or hmac is expected".into());
     };
