@@ -2,12 +2,12 @@
 use mathlib.Core.Bool.{Bool, true, false, cond, _&&_}
 use mathlib.Core.List.{List, [], _∷_}
 use mathlib.Core.Path.{_≡_, refl}
-use Prim.Native.Nat.{ℕ, zero, suc, _+_, _*_, _^_, _<_, _≤_}
+use Prim.Native.Nat.{ℕ, zero, suc, _+_, _*_, _^_, _<_}
 use native.Mathlib.Omega.{arith}
 use lib.Dec.{ltb, leb}
 use lib.ListN.{length, getD}
 use Rattle.std.proofs.shelf.Tests.{and-parts, both-ways, ltb-true, leb-true}
-use Rattle.compression.specs.Laws.{undivided, isPrime, primes, Fraction, listed, Constants}
+use Rattle.compression.specs.Laws.{undivided, isPrime, primes, Fraction, wordsOf, Constants}
 use Rattle.compression.specs.Sha256.{K, H0}
 
 -- how many numbers from 1 to n have an e-th power of at most p
@@ -43,7 +43,7 @@ cube-roots : all-fit 3 (primes 312) K ≡ true
 unfolding all-fit fits wholes primes isPrime undivided K
 cube-roots = refl
 
-square-roots : all-fit 2 (primes 312) (listed H0) ≡ true
+square-roots : all-fit 2 (primes 312) (wordsOf H0) ≡ true
 unfolding all-fit fits wholes primes isPrime undivided H0
 square-roots = refl
 
@@ -59,5 +59,5 @@ pub constants : Constants
 constants = record {
   sixty-four = sixty-four;
   rounds = λ t l. each 3 (primes 312) K cube-roots t (omega (arith, length-K));
-  state = λ t l. each 2 (primes 312) (listed H0) square-roots t l;
+  state = λ t l. each 2 (primes 312) (wordsOf H0) square-roots t l;
 }

@@ -1,9 +1,9 @@
 -- What the padding of a message is.
-use mathlib.Core.List.{List, _∷_, _++_}
+use mathlib.Core.List.{List}
 use mathlib.Core.Path.{_≡_, refl, ap, _∙_}
-use Prim.Native.Nat.{ℕ, zero, suc, _+_, _*_, _%_, _≤_}
+use Prim.Native.Nat.{ℕ, zero, suc, _+_, _%_, _≤_}
 use native.Mathlib.Omega.{arith}
-use lib.ListN.{length, replicate}
+use lib.ListN.{length}
 use Rattle.std.proofs.shelf.Lists.{length-append, length-replicate}
 use Rattle.compression.specs.Laws.{Padding}
 use Rattle.compression.specs.Sha256.{bytes, zeros, padding, padded}

@@ -1,13 +1,13 @@
 -- One block, and one block more.
-use mathlib.Core.List.{List, _++_}
-use mathlib.Core.Path.{_≡_, sym, ap, _∙_}
-use Prim.Native.Nat.{ℕ, suc, _+_, _-_, _*_}
+use mathlib.Core.List.{List}
+use mathlib.Core.Path.{_≡_, ap, _∙_}
+use Prim.Native.Nat.{ℕ, _+_, _-_, _*_}
 use native.Mathlib.Numerals.{add-one}
 use native.Mathlib.Omega.{arith}
 use lib.ListN.{length, take, drop}
 use Rattle.compression.specs.declared.state.State.{State}
 use Rattle.compression.specs.Parts.{following, roundsFrom}
-use Rattle.compression.specs.Sha256.{words, rounds, schedule, sum, compressed, processed}
+use Rattle.compression.specs.Sha256.{words, schedule, sum, compressed, processed}
 use Rattle.compression.proofs.Schedules.{by-fours, length-following}
 use Rattle.compression.proofs.Turns.{all-turns}
 

@@ -30,14 +30,15 @@ abbrev pub Fraction : ℕ → ℕ → ℕ → Type 0
 Fraction e p x =
     (whole : ℕ) × (x < 2 ^ 32) × ((whole * 2 ^ 32 + x) ^ e ≤ p * 2 ^ (32 * e)) × (p * 2 ^ (32 * e) < (whole * 2 ^ 32 + x + 1) ^ e)
 
-abbrev pub listed : State → List ℕ
-listed s = s .a ∷ s .b ∷ s .c ∷ s .d ∷ s .e ∷ s .f ∷ s .g ∷ s .h ∷ []
+-- the words of a state
+abbrev pub wordsOf : State → List ℕ
+wordsOf s = s .a ∷ s .b ∷ s .c ∷ s .d ∷ s .e ∷ s .f ∷ s .g ∷ s .h ∷ []
 
 -- the round constants are those of the cube roots of the first 64 primes, the first state that of the square roots of the first eight
 pub record Constants : Type 0 where
   pub sixty-four : length (primes 312) ≡ 64
   pub rounds : (t : ℕ) → t < 64 → Fraction 3 (getD (primes 312) t 0) (getD K t 0)
-  pub state : (t : ℕ) → t < 8 → Fraction 2 (getD (primes 312) t 0) (getD (listed H0) t 0)
+  pub state : (t : ℕ) → t < 8 → Fraction 2 (getD (primes 312) t 0) (getD (wordsOf H0) t 0)
 
 -- ---- the padding
 

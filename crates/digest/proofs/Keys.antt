@@ -1,8 +1,8 @@
 -- The block of a key, and what is hashed after it.
-use mathlib.Core.Bool.{true, false, cond}
+use mathlib.Core.Bool.{cond}
 use mathlib.Core.List.{List, [], _∷_, _++_, map, append-assoc}
 use mathlib.Core.Path.{_≡_, sym, ap, ap₂, subst, _∙_}
-use Prim.Native.Nat.{ℕ, _+_, _-_, _*_, _/_, _^_, _<_, _≤_}
+use Prim.Native.Nat.{ℕ, _+_, _-_, _/_, _^_, _<_, _≤_}
 use native.Mathlib.Omega.{arith}
 use borrow.Author.Tests.{lt-ltb, le-ltb}
 use lib.Bits.{bitXor}
@@ -16,7 +16,6 @@ use Rattle.compression.specs.declared.state.State.{State}
 use Rattle.compression.specs.Sha256.{H0, processed, digest}
 use Rattle.digest.specs.declared.hasher.Hasher.{Hasher}
 use Rattle.digest.specs.declared.hasher.TooLong.{TooLong}
-use Rattle.digest.specs.declared.hmac.Hmac.{Hmac}
 use Rattle.digest.specs.Hmac.{filled, keyBlock, masked, ipad}
 use Rattle.digest.specs.Keyed.{Keyed}
 use Rattle.digest.specs.Taken.{Took, Updated}
@@ -76,22 +75,22 @@ pub after-key : (pad : ℕ) (k block : List ℕ) (s : State) → block ≡ keyBl
 unfolding masked
 after-key pad k block s eb e = e ∙ ap (λ v. processed (map (λ b. bitXor b pad) v) 1 H0) eb
 
+-- how much the inner hasher has taken, the key's block and then the message with its part
+inner-length : (k m part : List ℕ) → length ((masked ipad k ++ m) ++ part) ≡ 64 + length (m ++ part)
+inner-length k m part =
+    ap length (append-assoc (masked ipad k) m part) ∙ length-append (masked ipad k) (m ++ part)
+    ∙ ap (λ n. n + length (m ++ part)) (length-masked ipad k)
+
 -- an update of the inner hasher
 pub updates : (k part : List ℕ) (g h : Hasher) (outer : State) (r : Result Unit TooLong) → Updated Took (2 ^ 61) g part r h
     → Updated (Keyed k) (2 ^ 61 - 64) (record { inner = g; outer = outer }) part r (record { inner = h; outer = outer })
 updates k part g h outer (Ok _) e = λ m t.
     let u = e (masked ipad k ++ m) (t .inside) in
-    let a = append-assoc (masked ipad k) m part in
-    let l : length ((masked ipad k ++ m) ++ part) ≡ 64 + length (m ++ part) =
-    ap length a ∙ length-append (masked ipad k) (m ++ part) ∙ ap (λ n. n + length (m ++ part)) (length-masked ipad k) in
-    let few = u .0 in
-    (omega arith, record { inside = subst (Took h) a (u .1); outside = t .outside })
+    let few = u .0 in (
+      omega (arith, inner-length k m part),
+      record { inside = subst (Took h) (append-assoc (masked ipad k) m part) (u .1); outside = t .outside },
+    )
 updates k part g h outer (Err _) e = (
   ap (λ i. record { inner = i; outer = outer }) (e .0),
-  λ m t.
-      let a = append-assoc (masked ipad k) m part in
-      let l : length ((masked ipad k ++ m) ++ part) ≡ 64 + length (m ++ part) =
-      ap length a ∙ length-append (masked ipad k) (m ++ part) ∙ ap (λ n. n + length (m ++ part)) (length-masked ipad k) in
-      let many = e .1 (masked ipad k ++ m) (t .inside) in
-      omega arith,
+  λ m t. let many = e .1 (masked ipad k ++ m) (t .inside) in omega (arith, inner-length k m part),
 )

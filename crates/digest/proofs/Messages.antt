@@ -1,7 +1,7 @@
 -- The blocks of lists that are joined, and the last blocks as the padding has them.
 use mathlib.Core.List.{List, [], _∷_, _++_, append-assoc}
 use mathlib.Core.Path.{_≡_, refl, sym, ap, ap₂, _∙_}
-use Prim.Native.Nat.{ℕ, zero, suc, _+_, _-_, _*_, _/_, _%_, _^_, _<_, _≤_}
+use Prim.Native.Nat.{ℕ, zero, suc, _+_, _-_, _*_, _/_, _%_, _^_, _≤_}
 use native.Mathlib.Nat.{add-zero, add-suc, div-one}
 use native.Mathlib.Omega.{arith}
 use borrow.Rule.Slice.PartMut.{putMid}
@@ -129,8 +129,8 @@ closes first rest last a end bits s s1 s2 h es eb ee el e1 e2 =
     let lt : length (take w rest) ≡ 64 * b = simp length-take (omega arith) in
     let ll : length left ≡ length rest % 64 = simp length-drop (omega arith) in
     let lx : length x ≡ 64 * (a + b) = length-append first (take w rest) ∙ omega arith in
-    let zs : zeros (length rest % 64) ≡ zeros n =
-    zeros-of-rest (length rest) ∙ sym (zeros-of-rest (length rest)) ∙ ap zeros (omega arith) ∙ zeros-of-rest n in
+    let left-over : length rest % 64 ≡ n % 64 = omega arith in
+    let zs : zeros (length rest % 64) ≡ zeros n = ap zeros left-over ∙ zeros-of-rest n in
     let same-left : take (length rest - w) left ≡ left = take-rest rest w in
     let zk : end - 9 - length left ≡ zeros n = omega arith in
     let ey : take end last ≡ y =

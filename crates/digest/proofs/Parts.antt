@@ -1,12 +1,12 @@
 -- What a hasher has taken, part by part.
-use mathlib.Core.List.{List, [], _∷_, _++_, append-assoc}
-use mathlib.Core.Path.{_≡_, refl, sym, ap, ap₂, subst, _∙_}
-use Prim.Native.Nat.{ℕ, suc, _+_, _-_, _*_, _/_, _%_, _<_, _≤_}
+use mathlib.Core.List.{List, _++_, append-assoc}
+use mathlib.Core.Path.{_≡_, sym, ap, ap₂, _∙_}
+use Prim.Native.Nat.{ℕ, _+_, _-_, _*_, _/_, _%_, _<_, _≤_}
 use native.Mathlib.Omega.{arith}
 use lib.ListN.{length, take, drop}
-use Rattle.std.proofs.shelf.Lists.{length-append, length-take, length-drop, take-append-le, drop-append-le, take-at, take-all, take-append-drop, take-rest, drop-at, drop-all, drop-drop}
+use Rattle.std.proofs.shelf.Lists.{length-append, length-take, length-drop, drop-append-le, take-at, take-all, take-append-drop, take-rest, drop-at, drop-all, drop-drop}
 use Rattle.compression.specs.declared.state.State.{State}
-use Rattle.compression.specs.Sha256.{H0, compressed, processed}
+use Rattle.compression.specs.Sha256.{H0, processed}
 use Rattle.digest.specs.Taken.{After}
 use Rattle.digest.proofs.Messages.{front, back}
 

@@ -1,8 +1,8 @@
 -- Byte strings that are compared by what differs in any of their bytes.
-use mathlib.Core.Bool.{Bool, true, false}
-use mathlib.Core.List.{List, [], _∷_, _++_}
+use mathlib.Core.Bool.{Bool, false}
+use mathlib.Core.List.{List}
 use mathlib.Core.Path.{_≡_, refl, sym, ap, ap₂, _∙_}
-use Prim.Native.Nat.{ℕ, zero, suc, _+_, _*_, _<_}
+use Prim.Native.Nat.{ℕ, _+_, _<_}
 use native.Mathlib.Omega.{arith}
 use lib.Bits.{bitOr, bitXor, or-add-and, xor-add-and, and-le-l, and-le-r, xor-self}
 use lib.Dec.{eqb}
@@ -43,7 +43,7 @@ so-far-more d i xs ys l h s = (
   λ e. ap₂ bitOr (s .1 e) (ap (λ z. bitXor (getD xs i 0) (getD z i 0)) (sym e) ∙ xor-self (getD xs i 0)),
 )
 
-pub so-far-all : (d i : ℕ) (xs ys : List ℕ) → length xs ≡ length ys → i ≡ length xs → SoFar d xs ys i → (d ≡ 0 → xs ≡ ys) × (xs ≡ ys → d ≡ 0)
+so-far-all : (d i : ℕ) (xs ys : List ℕ) → length xs ≡ length ys → i ≡ length xs → SoFar d xs ys i → (d ≡ 0 → xs ≡ ys) × (xs ≡ ys → d ≡ 0)
 so-far-all d i xs ys l h s =
     (λ e. sym (take-all i xs (omega arith)) ∙ s .0 e ∙ take-all i ys (omega arith), s .1)
 

@@ -1,10 +1,10 @@
 -- A write over the second half of an array.
 use mathlib.Core.List.{List, [], _++_, append-nil}
-use mathlib.Core.Path.{_≡_, sym, ap, ap₂, _∙_}
-use Prim.Native.Nat.{ℕ, _+_, _≤_}
+use mathlib.Core.Path.{_≡_, ap, ap₂, _∙_}
+use Prim.Native.Nat.{ℕ, _+_}
 use native.Mathlib.Omega.{arith}
 use borrow.Rule.Slice.PartMut.{putMid}
-use lib.ListN.{length, take, drop}
+use lib.ListN.{length, drop}
 use Rattle.std.proofs.shelf.Lists.{length-append, take-at, drop-drop, drop-all}
 
 pub joined : (n : ℕ) (a b p q zs : List ℕ) → p ≡ a → q ≡ b → length a ≡ n → length zs ≡ n → putMid n n (p ++ zs) q ≡ a ++ b

@@ -2,16 +2,16 @@
 use mathlib.Core.Bool.{Bool, true, false, not, _&&_}
 use mathlib.Core.List.{List, [], _∷_, _++_, append-assoc}
 use mathlib.Core.Path.{_≡_, refl, sym, ap, ap₂, _∙_}
-use Prim.Native.Nat.{ℕ, suc, _+_, _-_, _<_, _≤_}
+use Prim.Native.Nat.{ℕ, _+_, _-_, _<_, _≤_}
 use native.Mathlib.Omega.{arith}
 use borrow.Author.Tests.{lt-ltb, le-ltb}
 use borrow.Rule.Slice.PartMut.{putMid}
-use lib.Dec.{ltb}
 use lib.ListN.{length, getD, take, drop}
-use Rattle.std.proofs.shelf.Lists.{length-append, length-take-le, take-at, drop-at, drop-drop, take-rest}
+use Rattle.std.proofs.shelf.Lists.{length-append, length-take-le, take-at, drop-at, take-rest}
 use Rattle.std.proofs.shelf.Tests.{both-ways}
+use Rattle.digest.proofs.Messages.{put-is}
 use Rattle.signing.specs.Signed.{body, ending, carries, SignedBefore, Scheme}
-use Rattle.signing.specs.Unforged.{Use, Signs, Checks, Signed, Unforged}
+use Rattle.signing.specs.Unforged.{Use, Signs, Checks, Unforged}
 
 module _ (accepts : List ℕ → List ℕ → Bool) where
   -- ---- one byte string
@@ -87,8 +87,10 @@ module _ (accepts : List ℕ → List ℕ → Bool) where
           → putMid n (n + 64 - n) old copied ≡ take n old ++ (signature (take n old) ++ drop (n + 64) old)
       sealed sig copied ec es =
           let i : n - 0 ≡ n = omega arith in
-          let k : n + 64 - n ≡ 64 = omega arith in
-          ap₂ (λ u v. take n old ++ (u ++ v)) (ec ∙ es ∙ ap (λ j. signature (take j old)) i) (ap (λ j. drop j (drop n old)) k ∙ drop-drop 64 n old)
+          let s = signature (take n old) in
+          let size = sized (take n old) in
+          ap (λ k. putMid n (n + k - n) old copied) (sym size) ∙ put-is n old copied s (ec ∙ es ∙ ap (λ j. signature (take j old)) i)
+          ∙ ap (λ k. take n old ++ (s ++ drop (n + k) old)) size
 
       pub accepted : (new : List ℕ) → n + 64 ≤ length old → new ≡ take n old ++ (signature (take n old) ++ drop (n + 64) old)
           → carries accepts (take (n + 64) new) ≡ true

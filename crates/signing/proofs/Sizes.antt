@@ -1,5 +1,5 @@
 -- How long the stand-in's signatures are.
-use mathlib.Core.List.{List, [], _∷_, _++_}
+use mathlib.Core.List.{List}
 use mathlib.Core.Path.{_≡_, ap₂, _∙_}
 use Prim.Native.Nat.{ℕ, _+_}
 use lib.ListN.{length}

@@ -4,7 +4,7 @@
 -- nobody did. It is meant to be the only hypothesis of what is promised of runs. A run has to list every use of the key, in the order of time:
 -- each signing by its holder, and each check of a signature, wherever it is made. With several keys, it is assumed of each with its own uses.
 use mathlib.Core.Bool.{Bool, true}
-use mathlib.Core.List.{List, [], _∷_, _++_}
+use mathlib.Core.List.{List, _∷_, _++_}
 use mathlib.Core.Path.{_≡_}
 use Prim.Native.Nat.{ℕ}
 

@@ -1,5 +1,4 @@
 use mathlib.Core.Path.{refl, _∙_}
-use native.Mathlib.Omega.{arith}
 use Rattle.signing.proofs.Runs.{too-short, long-enough, cut, before, never}
 use Rattle.signing.proofs.keys.is_signed.Needs as need
 

@@ -1,6 +1,4 @@
 use native.Mathlib.Omega.{arith}
-use mathlib.Core.Path.{_≡_}
-use lib.ListN.{length}
 use Rattle.signing.proofs.Comparing.{so-far-more, other-lengths, by-difference, told}
 use Rattle.signing.proofs.same.same_bytes.Needs as need
 

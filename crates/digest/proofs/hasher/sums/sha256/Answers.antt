@@ -1,5 +1,5 @@
 use mathlib.Core.List.{[]}
-use mathlib.Core.Path.{refl, _∙_}
+use mathlib.Core.Path.{refl}
 use Rattle.compression.specs.Sha256.{processed}
 use Rattle.digest.proofs.hasher.sums.sha256.Needs as need
 

@@ -1,4 +1,4 @@
-use mathlib.Core.List.{[], _++_, append-nil}
+use mathlib.Core.List.{[], append-nil}
 use mathlib.Core.Path.{sym, subst, _∙_}
 use Rattle.digest.specs.Hmac.{masked, ipad, opad}
 use Rattle.digest.specs.Taken.{Took}
