@@ -1,4 +1,6 @@
 // The compression function of SHA-256: one block of a message after the other changes the state.
+#![tactic(auto)]
+
 mod blocks;
 mod rounds;
 mod schedule;

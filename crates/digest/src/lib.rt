@@ -1,4 +1,6 @@
 // SHA-256 and HMAC-SHA-256, of a whole message or of one that comes in parts.
+#![tactic(auto)]
+
 mod closing;
 mod hasher;
 mod hmac;

@@ -1,4 +1,6 @@
 // SHA-256 for programs in C or Rust that link this library.
+#![tactic(auto)]
+
 ghost use Rattle.compression.specs.Sha256.{digest};
 ghost use Rattle.digest_c.specs.Written.{Written};
 

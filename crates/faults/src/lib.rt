@@ -1,4 +1,6 @@
 // Why something is refused, and how a visit ends.
+#![tactic(auto)]
+
 ghost use Rattle.std.specs.Prelude.{◌≡◌};
 ghost use Rattle.faults.specs.Numbers.{fault_number, NumbersTell};
 

@@ -1,4 +1,6 @@
 // A list of barred cards as a slice of card numbers, in the order in which they were barred.
+#![tactic(auto)]
+
 ghost use Rattle.std.specs.Prelude.{◌≡◌, Decides};
 ghost use Rattle.lists.specs.Listed.{listed, Stands};
 

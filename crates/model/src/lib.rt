@@ -1,4 +1,6 @@
 // What can happen in the valley, and what comes of it. specs/Promise.antt has what is promised of every run.
+#![tactic(auto)]
+
 pub mod theorems;
 
 use faults::{Fault, VisitEnd};

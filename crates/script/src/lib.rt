@@ -1,4 +1,6 @@
 // A whole script: every line is read before anything is played, and a faulty script is refused at its first faulty line.
+#![tactic(auto)]
+
 ghost use Rattle.std.specs.Prelude.{◌≡◌, [], ◌++◌, OnOk};
 ghost use Rattle.std.specs.Option.{option_to_list};
 ghost use Rattle.script.specs.Setup.{has, is_new, known_card, known_lock, checked, command_on};

@@ -1,4 +1,6 @@
 // Runs of events, and what is promised of them.
+#![tactic(auto)]
+
 ghost use Rattle.std.specs.Prelude.{◌≡◌, None};
 ghost use Rattle.model.specs.declared.Holder.{Holder};
 ghost use Rattle.world.specs.Roster.{missing, unless};

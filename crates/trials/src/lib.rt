@@ -1,4 +1,6 @@
 // Examples of runs, scripts and signatures. They stand in a crate of their own, since a crate with tests is proved twice.
+#![tactic(auto)]
+
 #[cfg(test)]
 mod runs;
 #[cfg(test)]

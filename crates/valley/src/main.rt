@@ -1,4 +1,6 @@
 // Plays a script of barrings and visits, and prints what came of each line.
+#![tactic(auto)]
+
 use anyhow::anyhow;
 use script::{lock_line, read, report};
 use spread::run;

@@ -1,4 +1,6 @@
 // Holds digests and HMAC tags to published values.
+#![tactic(auto)]
+
 use anyhow::anyhow;
 use digest::{Hasher, Hmac, TooLong, hmac_sha256, sha256};
 use std::alloc::Global;

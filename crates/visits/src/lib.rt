@@ -1,4 +1,6 @@
 // What a card and a lock hold, how the newer list goes over when they meet, and when the lock opens.
+#![tactic(auto)]
+
 ghost use Rattle.std.specs.Prelude.{◌≡◌};
 ghost use Rattle.visits.specs.Exchange.{newer, heard, comes, decision};
 

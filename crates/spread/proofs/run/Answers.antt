@@ -4,7 +4,7 @@ use Rattle.spread.proofs.run.Goals as goal
 
 pub loop-event-init : goal.loop-event-init
 loop-event-init c =
-    (begins c.args.world.now c.args.events.now _ c.in-default.ensures c.clear.ensures.items, omega (arith, c.clear.ensures.capacity))
+    (begins c.args.world.now c.args.events.now _ c.in_default.ensures c.clear.ensures.items, omega (arith, c.clear.ensures.capacity))
 
 pub unreachable-requires : goal.unreachable-requires
 unreachable-requires c =
@@ -12,7 +12,7 @@ unreachable-requires c =
 
 pub loop-event-preserved : goal.loop-event-preserved
 loop-event-preserved c =
-    (goes_on c.args.world.now c.args.events.now c.loop-event.event-index c.loop-event.world _ c.loop-event.invariant.0 c.loop-event-test.true _ c.in-Ok.answer c.step.new.self c.in-Ok.ensures _ c.push-reserved.ensures.items, omega (arith, c.loop-event.invariant.1, c.push-reserved.ensures.capacity))
+    (goes_on c.args.world.now c.args.events.now c.loop-event.event-index c.loop-event.world _ c.loop-event.invariant.0 c.loop-event-test.true _ c.in-Ok.answer c.step.new.self c.in-Ok.ensures _ c.push_reserved.ensures.items, omega (arith, c.loop-event.invariant.1, c.push_reserved.ensures.capacity))
 
 pub returns : goal.returns
 returns c =

@@ -2,8 +2,8 @@ use Rattle.std.proofs.Common.{◌≡◌, sym, ◌∙◌}
 use Rattle.visits.proofs.Heard.{refuses, opens}
 use Rattle.visits.proofs.decide.Goals as goal
 
-pub returns-then-is-listed : goal.returns-then-is-listed
-returns-then-is-listed c = sym (refuses c.args.card c.args.barrings.now (sym c.is-listed.ensures.value ∙ c.if-is-listed.true))
+pub returns-then-is_listed : goal.returns-then-is_listed
+returns-then-is_listed c = sym (refuses c.args.card c.args.barrings.now (sym c.is_listed.ensures.value ∙ c.if-is_listed.true))
 
-pub returns-else-is-listed : goal.returns-else-is-listed
-returns-else-is-listed c = sym (opens c.args.card c.args.barrings.now (sym c.is-listed.ensures.value ∙ c.if-is-listed.false))
+pub returns-else-is_listed : goal.returns-else-is_listed
+returns-else-is_listed c = sym (opens c.args.card c.args.barrings.now (sym c.is_listed.ensures.value ∙ c.if-is_listed.false))

@@ -13,10 +13,10 @@ loop-t-preserved c =
     let w = c.loop-t.w in
     let t = c.loop-t.t in
     let long = c.loop-t.invariant.0 in
-    let set = take_more_set w t c.block-word.result (omega arith) in
+    let set = take_more_set w t c.block_word.result (omega arith) in
     let more = words_more c.args.block.now t in
     let so_far = c.loop-t.invariant.1 in
-    (length-set w t c.block-word.result ∙ long, cc)
+    (length-set w t c.block_word.result ∙ long, cc)
 
 pub returns : goal.returns
 returns c =

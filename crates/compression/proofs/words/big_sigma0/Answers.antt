@@ -5,4 +5,4 @@ use Rattle.compression.proofs.words.big_sigma0.Goals as goal
 
 pub returns : goal.returns
 unfolding bsig0 rotr
-returns c = ap₂ bit_xor (ap₂ bit_xor c.rotate-right.ensures c.rotate-right-2.ensures) c.rotate-right-3.ensures
+returns c = ap₂ bit_xor (ap₂ bit_xor c.rotate_right.ensures c.rotate_right-2.ensures) c.rotate_right-3.ensures

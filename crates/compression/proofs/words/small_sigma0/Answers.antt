@@ -5,4 +5,4 @@ use Rattle.compression.proofs.words.small_sigma0.Goals as goal
 
 pub returns : goal.returns
 unfolding ssig0 rotr shr
-returns c = ap₂ bit_xor (ap₂ bit_xor c.rotate-right.ensures c.rotate-right-2.ensures) refl
+returns c = ap₂ bit_xor (ap₂ bit_xor c.rotate_right.ensures c.rotate_right-2.ensures) refl

@@ -4,12 +4,12 @@ use Rattle.digest.proofs.closing.to_bytes.Goals as goal
 pub returns : goal.returns
 returns c =
     simp (
-      c.to-be-bytes.ensures,
-      c.to-be-bytes-2.ensures,
-      c.to-be-bytes-3.ensures,
-      c.to-be-bytes-4.ensures,
-      c.to-be-bytes-5.ensures,
-      c.to-be-bytes-6.ensures,
-      c.to-be-bytes-7.ensures,
-      c.to-be-bytes-8.ensures,
+      c.to_be_bytes.ensures,
+      c.to_be_bytes-2.ensures,
+      c.to_be_bytes-3.ensures,
+      c.to_be_bytes-4.ensures,
+      c.to_be_bytes-5.ensures,
+      c.to_be_bytes-6.ensures,
+      c.to_be_bytes-7.ensures,
+      c.to_be_bytes-8.ensures,
     ) (output_is c.args.s)

@@ -10,7 +10,7 @@ returns c =
     let k = c.args.key.now in
     let li = length-masked ipad k in
     let lo = length-masked opad k in
-    let inside = after_key ipad k _ _ c.key-block-block.ensures c.after-key.ensures in
-    let outside = after_key opad k _ _ c.key-block-block.ensures c.after-key-2.ensures in
+    let inside = after_key ipad k _ _ c.key_block-block.ensures c.after_key.ensures in
+    let outside = after_key opad k _ _ c.key_block-block.ensures c.after_key-2.ensures in
     c.close.ensures (masked opad k) 1 lo lo outside
     ∙ ap (λ v. digest (masked opad k ++ v)) (c.close-inner.ensures (masked ipad k) 1 li li inside)

@@ -6,8 +6,8 @@ use Rattle.script.proofs.texts.answer_to.Goals as goal
 
 pub returns : goal.returns
 returns c =
-    let e = c.if-is-empty.ensures in
+    let e = c.if-is_empty.ensures in
     let some : 0 < length c.args.answers.now = grind (arith, nat_tests) in
-    let plays : is_some (event_of c.args.command) ≡ true = sym (ap is_some c.event.ensures) ∙ c.if-is-none.ensures in
+    let plays : is_some (event_of c.args.command) ≡ true = sym (ap is_some c.event.ensures) ∙ c.if-is_none.ensures in
     let p = taken (event_of c.args.command) c.args.answers.now _ plays some in
     record { first = p.0; rest = p.1 }

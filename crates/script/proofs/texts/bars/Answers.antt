@@ -11,6 +11,6 @@ loop-card-preserved c = bars_more _ _ _ c.args.barrings.now c.loop-card.card-ind
 
 pub returns : goal.returns
 returns c =
-    let e = c.if-is-empty.ensures in
+    let e = c.if-is_empty.ensures in
     let some : 0 < length c.args.barrings.now = grind (arith, nat_tests) in
     c.loop-card.invariant ∙ ap (flat_map one) (take_all _ c.args.barrings.now c.loop-card-test.false) ∙ bars_some _ some

@@ -21,7 +21,7 @@ returns g c =
     let signature = g.S.SigningKey.signature key in
     let honest = g.met.S.SigningKey.honest key in
     let sized = g.met.S.SigningKey.sized key in
-    let new = sealed accepts signature honest sized n old _ _ c.copy-from-slice.ensures.after c.sign-signature.ensures in
+    let new = sealed accepts signature honest sized n old _ _ c.copy_from_slice.ensures.after c.sign-signature.ensures in
     record {
       memory = (refl, omega arith, new);
       accepted = accepted accepts signature honest sized n old _ (omega arith) new;

@@ -7,11 +7,11 @@ pub returns-then-says-self : goal.returns-then-says-self
 returns-then-says-self c =
     let p = not_awaited c.args.self.now.list c.args.says c.args.gives c.if-says-self.true in record { answer = sym p.0; memory = sym p.1 }
 
-pub returns-in-default : goal.returns-in-default
-returns-in-default c =
+pub returns-in_default : goal.returns-in_default
+returns-in_default c =
     let n = c.args.self.now.list in
     let p = none_given n c.args.says c.if-says-self.false in
-    record { answer = sym p.0 ∙ ap (comes n c.args.says) (sym c.in-default.is); memory = sym p.1 ∙ ap (heard n c.args.says) (sym c.in-default.is) }
+    record { answer = sym p.0 ∙ ap (comes n c.args.says) (sym c.in_default.is); memory = sym p.1 ∙ ap (heard n c.args.says) (sym c.in_default.is) }
 
 pub returns-then-number-says : goal.returns-then-number-says
 returns-then-number-says c =

@@ -2,11 +2,11 @@ use Rattle.std.proofs.Common.{◌≡◌, length, sym, refl, ap, ◌∙◌, arith
 use Rattle.words.proofs.Numbers.{numeral_digit, read_more, read_all, not_numeral, too_large, is_number}
 use Rattle.words.proofs.words.number_of.Goals as goal
 
-pub returns-then-not-is-numeral : goal.returns-then-not-is-numeral
-returns-then-not-is-numeral c = not_numeral _ c.if-not-is-numeral.ensures
+pub returns-then-not-is_numeral : goal.returns-then-not-is_numeral
+returns-then-not-is_numeral c = not_numeral _ c.if-not-is_numeral.ensures
 
-pub overflow-sub-digit : goal.overflow-sub-digit
-overflow-sub-digit c = (numeral_digit _ _ (sym c.if-not-is-numeral.ensures) c.loop-digit-test.true).0
+pub overflow_sub-digit : goal.overflow_sub-digit
+overflow_sub-digit c = (numeral_digit _ _ (sym c.if-not-is_numeral.ensures) c.loop-digit-test.true).0
 
 pub returns-then-value : goal.returns-then-value
 returns-then-value c =
@@ -20,4 +20,4 @@ loop-digit-preserved c = (
 
 pub returns : goal.returns
 returns c =
-    is_number _ _ c.if-not-is-numeral.ensures (sym (read_all c.loop-digit.value c.args.word.now c.loop-digit.digit-index c.loop-digit-test.false) ∙ c.loop-digit.invariant.1) c.loop-digit.invariant.0
+    is_number _ _ c.if-not-is_numeral.ensures (sym (read_all c.loop-digit.value c.args.word.now c.loop-digit.digit-index c.loop-digit-test.false) ∙ c.loop-digit.invariant.1) c.loop-digit.invariant.0

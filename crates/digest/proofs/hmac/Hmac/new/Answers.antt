@@ -7,8 +7,8 @@ use Rattle.digest.proofs.hmac.Hmac.new.Goals as goal
 pub returns : goal.returns
 returns c =
     let k = c.args.key.now in
-    let same = masked_is ipad k _ _ c.key-block-block.ensures c.mask.ensures in
+    let same = masked_is ipad k _ _ c.key_block-block.ensures c.mask.ensures in
     record {
       inside = subst (Took c.take.new.self) (same ∙ sym (append-nil (masked ipad k))) (c.take.ensures [] c.new-inner.ensures);
-      outside = after_key opad k _ _ c.key-block-block.ensures c.after-key.ensures;
+      outside = after_key opad k _ _ c.key_block-block.ensures c.after_key.ensures;
     }

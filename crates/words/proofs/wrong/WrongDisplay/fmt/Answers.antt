@@ -17,4 +17,4 @@ returns-clause-writes g c =
       | in-Empty w ↦ ap (λ x. x.now) w.text-is ∙ ap phrase (sym w.in-Empty.is)
     ]
     in
-    rw (sym is) c.write-str.ensures.writes
+    rw (sym is) c.write_str.ensures.writes

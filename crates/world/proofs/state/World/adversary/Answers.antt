@@ -17,7 +17,7 @@ returns-then-not-hear c =
     let q : get_or locks y None ≡ Some k = sym c.lock.ensures ∙ c.in-Some-lock.is in
     let u : x < length cards = omega (arith, w.cards.ok.0, w.card_places, c.ranges.card) in
     let v : y < length locks = omega (arith, w.locks.ok.0, w.lock_places, c.ranges.lock) in
-    let t = sym c.can-give.ensures ∙ c.if-not-can-give.false in
+    let t = sym c.can_give.ensures ∙ c.if-not-can_give.false in
     let f = sym c.hear.ensures.answer ∙ c.if-not-hear.true in
     record {
       known = both_there day bars cards locks x y a k p q u v;
