@@ -8,7 +8,7 @@ last_blocks-last-requires c =
     let n = length c.args.rest.now in
     let left : length (take (n - (n - n % 64)) (drop (n - n % 64) c.args.rest.now)) ≡ n % 64 =
     simp (length-take, length-drop) (omega arith) in
-    λ _. (omega arith, c.padded_len-end.ensures.few)
+    (omega arith, c.padded_len-end.ensures.few)
 
 pub returns : goal.returns
 returns c = λ first n count whole state.

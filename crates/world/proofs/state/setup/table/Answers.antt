@@ -4,7 +4,7 @@ use Rattle.world.proofs.Places.{table_none, table_more, only_none}
 use Rattle.world.proofs.state.setup.table.Goals as goal
 
 pub loop-number-init : goal.loop-number-init
-loop-number-init g c = table_none c.in_ok-places.places.items c.args.empty (c.in_ok-places.ensures.items-if-clones-equal (only_none _ (λ x e. e)))
+loop-number-init g c = table_none c.in_ok-places.places.items c.args.empty (c.in_ok-places.ensures.items_if_clones_equal (only_none _ (λ x e. e)))
 
 pub loop-number-preserved : goal.loop-number-preserved
 loop-number-preserved g c =
