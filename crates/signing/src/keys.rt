@@ -34,8 +34,8 @@ pub trait SigningKey {
 
 // Whether a byte string ends with a signature, of 64 bytes, that is right for all before it.
 pub fn is_signed<K: VerifyingKey>(key: &K, bytes: &[u8]) -> bool
-    ensures value { result ≡ carries (accepts key.now) bytes.now }
-    ensures before { SignedBefore (accepts key.now) bytes.now result }
+    ensures value { result ≡ carries (K.accepts key.now) bytes.now }
+    ensures before { SignedBefore (K.accepts key.now) bytes.now result }
 {
     if bytes.len() < 64 {
         return false;
@@ -47,9 +47,9 @@ pub fn is_signed<K: VerifyingKey>(key: &K, bytes: &[u8]) -> bool
 // Signs the first `n` bytes of lent memory and writes the signature after them. The answer is where that ends, or `None` where it has no
 // room, and then nothing is written.
 pub fn seal<S: SigningKey>(key: &S, memory: &mut [u8], n: usize) -> Option<usize>
-    ensures memory { Sealed (signature key.now) n memory.old result memory.new }
-    ensures accepted { Accepted (S.Verifying.VerifyingKey.accepts (verifying key.now)) result memory.new }
-    ensures scheme { Scheme (S.Verifying.VerifyingKey.accepts (verifying key.now)) (signature key.now) }
+    ensures memory { Sealed (S.signature key.now) n memory.old result memory.new }
+    ensures accepted { Accepted (S.Verifying.accepts (S.verifying key.now)) result memory.new }
+    ensures scheme { Scheme (S.Verifying.accepts (S.verifying key.now)) (S.signature key.now) }
 {
     if memory.len() < 64 || n > memory.len() - 64 {
         return None;

@@ -18,14 +18,14 @@ returns-in-Err c =
     let value = wrong_line c.loop-rest.invariant _ _ _ _ next c.command_on.ensures c.in-Err.is in
     rw c.faulty-in-Err.ensures (record { value = value; law = script_law c.args.text.now (Err (Faulty (fault_at _ _))) value })
 
-pub returns-in_err-add : goal.returns-in_err-add
-returns-in_err-add c =
+pub returns-in_err-add-in-Some-found : goal.returns-in_err-add-in-Some-found
+returns-in_err-add-in-Some-found c =
     let p = err_from_is_err_and c.from_residual.result c.from_residual.ensures.1 in rw (p.1, p.2) (record { value = tt; law = tt })
 
 pub loop-rest-preserved : goal.loop-rest-preserved
 loop-rest-preserved c =
     let next = rw c.in-Some.is at c.cut.ensures in
-    one_command c.loop-rest.invariant _ _ _ _ _ next c.command_on.ensures (c.in-Ok.is ∙ ap (λ o. Ok o) c.in-Some-found.is) c.in_ok-add.ensures
+    one_command c.loop-rest.invariant _ _ _ _ _ next c.command_on.ensures (c.in-Ok.is ∙ ap (λ o. Ok o) c.in-Some-found.is) c.in_ok-add-in-Some-found.ensures
 
 pub loop-rest-preserved-in-None : goal.loop-rest-preserved-in-None
 loop-rest-preserved-in-None c =
