@@ -71,7 +71,7 @@ fn play(rt: &HostRuntime, text: &[u8]) -> anyhow::Result<()> {
         return Err(anyhow!("a card or lock is not set up"));
     };
     rt.print(report(heap, script.commands.as_slice(), answers.as_slice())?)?;
-    script.locks.sort();
+    script.locks.sort_unstable();
     rt.print(closing(heap, &world, script.locks.as_slice())?)?;
     Ok(())
 }

@@ -33,7 +33,7 @@ fn digit(byte: u8) -> Option<u8> {
 
 fn bytes_of(heap: Global, word: &[u8]) -> anyhow::Result<Vec<u8>> {
     let mut bytes = Vec::new(heap);
-    if word == b"-" {
+    if word == b"-".as_slice() {
         return Ok(bytes);
     }
     let mut half = None;
@@ -184,9 +184,9 @@ fn hold(rt: &HostRuntime, line: &[u8]) -> anyhow::Result<bool> {
     let mut words = Words { rest: Some(line) };
     let kind = next(&mut words)?;
     let name = next(&mut words)?;
-    let holds = if kind == b"sha256" {
+    let holds = if kind == b"sha256".as_slice() {
         digest_holds(heap, &mut words)?
-    } else if kind == b"hmac" {
+    } else if kind == b"hmac".as_slice() {
         tag_holds(heap, &mut words)?
     } else {
         return Err(anyhow!("sha256 or hmac is expected"));
