@@ -6,6 +6,7 @@ use script::{lock_line, read, report};
 use spread::run;
 use std::alloc::{AllocError, Global};
 use std::io::Read;
+use std::process::ExitCode;
 use std::{env, fs};
 use world::World;
 
@@ -92,10 +93,11 @@ fn valley(rt: &HostRuntime) -> anyhow::Result<()> {
     play(rt, text.as_slice())
 }
 
-fn main(rt: HostRuntime) -> anyhow::Result<()> {
-    let done = valley(&rt);
-    if let Err(error) = &done {
-        eprintln!(rt; "{error}")?;
-    }
-    done
+// What is wrong is said once, in plain words: an error that `main` returned would be printed again.
+fn main(rt: HostRuntime) -> ExitCode {
+    let Err(error) = valley(&rt) else {
+        return ExitCode::SUCCESS;
+    };
+    let _ = eprintln!(rt; "{error}");
+    ExitCode::FAILURE
 }

@@ -5,6 +5,7 @@ use anyhow::anyhow;
 use digest::{Hasher, Hmac, TooLong, hmac_sha256, sha256};
 use std::alloc::Global;
 use std::io::Write;
+use std::process::ExitCode;
 use std::{env, fs};
 use words::Words;
 use words::cut::{bare, cut};
@@ -250,10 +251,11 @@ fn vectors(rt: &HostRuntime) -> anyhow::Result<()> {
     }
 }
 
-fn main(rt: HostRuntime) -> anyhow::Result<()> {
-    let done = vectors(&rt);
-    if let Err(error) = &done {
-        eprintln!(rt; "{error}")?;
-    }
-    done
+// What is wrong is said once, in plain words: an error that `main` returned would be printed again.
+fn main(rt: HostRuntime) -> ExitCode {
+    let Err(error) = vectors(&rt) else {
+        return ExitCode::SUCCESS;
+    };
+    let _ = eprintln!(rt; "{error}");
+    ExitCode::FAILURE
 }
