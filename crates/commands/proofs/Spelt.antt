@@ -1,5 +1,5 @@
 -- A line is read as a command exactly if it is the command as it is written. Assumes nothing.
-use Rattle.std.proofs.Common.{◌≡◌, ℕ, zero, suc, ◌+◌, ◌^◌, ◌<◌, ◌≤◌, Bool, true, false, cond, ◌&&◌, eqb, ltb, leb, ◌⊎◌, List, [], ◌∷◌, ◌++◌, length, get_or, Some, None, Ok, Err, codes, decimal, Option, Result, sym, refl, ap, ◌∙◌, subst, inl, inr, append_assoc, append-nil, arith}
+use Rattle.std.proofs.Common.{◌≡◌, ℕ, suc, ◌^◌, ◌<◌, cond, ◌&&◌, eqb, ltb, leb, List, [], ◌∷◌, ◌++◌, length, get_or, Some, None, Ok, Err, codes, decimal, Option, Result, sym, refl, ap, ◌∙◌, subst, inl, inr, append_assoc, append-nil, arith}
 use Rattle.std.specs.Str.{bytes_eq}
 use Rattle.std.proofs.lemmas.Slice.Eq.{bytes_eq-Decides}
 use Rattle.std.proofs.lemmas.Bool.{and_parts, and_from, cond-true, cond-false, cases_Bool, lt-ltb, le-leb, ltb-true, leb-true, eqb-true, ne_eqb}
@@ -11,7 +11,7 @@ use Rattle.commands.specs.declared.line.Name.{Name}
 use Rattle.commands.specs.declared.line.Name.TheVariants.{Lock as LockName, Card as CardName, Day as DayName, Bar as BarName, Desk as DeskName, Visit as VisitName, Thief as ThiefName}
 use Rattle.words.specs.Lines.{pieces, on_first}
 use Rattle.words.specs.Words.{number_of, in_range, id_of, words_of, Reading, with, then, or_wrong, id_from, number_from, option_from}
-use Rattle.commands.specs.Commands.{written, optional, Id, Number, Perhaps, Lawful, visit_from, thief_from, name_of, command_from, ended, parsed, Read}
+use Rattle.commands.specs.Commands.{written, Id, Perhaps, Lawful, name_of, command_from, ended, parsed, Read}
 use Rattle.words.proofs.Cuts.{pieces_none, pieces_some}
 use Rattle.words.proofs.Numbers.{number_read, number_written, no_space}
 

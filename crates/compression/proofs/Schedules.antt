@@ -1,5 +1,5 @@
 -- The schedule, sixteen words at a time.
-use Rattle.std.proofs.Common.{◌≡◌, ℕ, zero, suc, ◌+◌, ◌-◌, List, [], ◌∷◌, ◌++◌, length, get_or, take, drop, sym, ap, ◌∙◌, append_assoc, add-zero, add-suc, add-one, arith}
+use Rattle.std.proofs.Common.{◌≡◌, ℕ, zero, suc, ◌+◌, List, [], ◌∷◌, ◌++◌, length, get_or, take, drop, sym, ap, ◌∙◌, append_assoc, add-zero, add-suc, add-one, arith}
 use Rattle.std.proofs.lemmas.List.{length-append, length-drop, get_or-append-add, take-append-le, take-append-drop, take_all, drop_more, drop_all}
 use Rattle.compression.specs.Parts.{following}
 use Rattle.compression.specs.Sha256.{word, words, next_word, extended}

@@ -1,5 +1,5 @@
 -- What a hasher has taken. Assumes nothing.
-use Rattle.std.specs.Prelude.{◌≡◌, ℕ, ◌+◌, ◌*◌, ◌/◌, ◌%◌, ◌<◌, ◌≤◌, List, ◌++◌, length, take, drop, Ok, Err, Result}
+use Rattle.std.specs.Prelude.{◌≡◌, ℕ, ◌*◌, ◌/◌, ◌%◌, ◌<◌, ◌≤◌, List, ◌++◌, length, take, drop, Ok, Err, Result}
 use Rattle.compression.specs.declared.state.State.{State}
 use Rattle.compression.specs.Sha256.{initial_hash, processed}
 use Rattle.digest.specs.declared.hasher.Hasher.{Hasher}

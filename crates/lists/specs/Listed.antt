@@ -1,5 +1,5 @@
 -- When a card stands on a list of barrings. Assumes nothing.
-use Rattle.std.specs.Prelude.{◌≡◌, ℕ, ◌<◌, Bool, true, false, ◌||◌, List, [], ◌∷◌, length, ◌==◌, slice_index}
+use Rattle.std.specs.Prelude.{◌≡◌, ℕ, ◌<◌, Bool, false, ◌||◌, List, [], ◌∷◌, length, ◌==◌, slice_index}
 
 unfoldable pub listed : ℕ → List ℕ → Bool
 listed c [] = false

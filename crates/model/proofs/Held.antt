@@ -1,5 +1,5 @@
 -- A holder's number never falls, and says exactly of which barrings its holder can have been informed. Assumes nothing.
-use Rattle.std.proofs.Common.{◌≡◌, ℕ, zero, suc, ◌+◌, ◌<◌, ◌≤◌, Bool, true, false, cond, ◌⊎◌, List, [], ◌∷◌, ◌++◌, length, Some, None, Option, sym, refl, ap, ◌∙◌, subst, inl, inr, le_refl, not-suc-le-zero, arith}
+use Rattle.std.proofs.Common.{◌≡◌, ℕ, ◌<◌, ◌≤◌, true, List, [], ◌∷◌, length, Some, Option, sym, ap, ◌∙◌, inl, inr, le_refl, not-suc-le-zero, arith}
 use Rattle.std.proofs.lemmas.List.{length_push}
 use Rattle.office.specs.Desk.{barred_after, signed}
 use Rattle.office.proofs.Bars.{bar_is, signed_is}
@@ -8,8 +8,8 @@ use Rattle.model.specs.declared.Event.{Event}
 use Rattle.model.specs.declared.Event.TheVariants.{Day, Bar, AtDesk, Visit, Adversary}
 use Rattle.model.specs.declared.Holder.{Holder}
 use Rattle.model.specs.declared.Holder.TheVariants.{Card, Lock}
-use Rattle.model.specs.Run.{State, start, put, number, has, after_hearing, step, after}
-use Rattle.model.specs.Informed.{Made, Informed, at_desk, card_to_lock, lock_to_card, adversary_to_lock, stays}
+use Rattle.model.specs.Run.{State, put, number, has, after_hearing, step, after}
+use Rattle.model.specs.Informed.{Informed, at_desk, card_to_lock, lock_to_card, adversary_to_lock, stays}
 use Rattle.model.proofs.Tables.{newer_is, below_newer, newer_first, newer_second, put_is, put_same, put_rises, hearing_is, hearing_takes}
 
 -- the row of barrings grows or stays

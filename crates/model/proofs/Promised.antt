@@ -1,5 +1,5 @@
 -- The proofs of the types of specs/Promise.antt. Assumes nothing.
-use Rattle.std.proofs.Common.{◌≡◌, ℕ, zero, suc, ◌+◌, ◌<◌, ◌≤◌, Bool, true, false, cond, ltb, ◌⊎◌, ◌↔◌, List, [], ◌∷◌, ◌++◌, length, get_or, take, Some, None, Ok, Err, Option, Result, sym, refl, ap, ◌∙◌, subst, inl, inr, le_trans, le_refl, not-suc-le-zero, arith}
+use Rattle.std.proofs.Common.{◌≡◌, ℕ, true, false, ltb, ◌⊎◌, ◌↔◌, List, [], ◌∷◌, ◌++◌, length, take, Ok, Err, Option, Result, sym, refl, ap, ◌∙◌, subst, inl, inr, not-suc-le-zero, arith}
 use Rattle.std.proofs.lemmas.Bool.{cases_Bool, cases_lt, both_ways, cond-true, cond-false}
 use Rattle.std.proofs.lemmas.List.{length_push, get_or_push}
 use Rattle.faults.specs.declared.Fault.{Fault}
@@ -10,7 +10,7 @@ use Rattle.faults.specs.Numbers.{fault_number, end_number}
 use Rattle.lists.specs.Listed.{listed}
 use Rattle.lists.proofs.Places.{finds}
 use Rattle.office.specs.Desk.{day_after, bar_answer, barred_after}
-use Rattle.office.proofs.Bars.{bar_is, full, twice, once}
+use Rattle.office.proofs.Bars.{bar_is, full, twice}
 use Rattle.visits.specs.Exchange.{newer, heard, comes, decision}
 use Rattle.visits.proofs.Heard.{refuses, opens, undecided as heard_nothing}
 use Rattle.model.specs.declared.Event.{Event}
@@ -18,13 +18,13 @@ use Rattle.model.specs.declared.Event.TheVariants.{Day, Bar, AtDesk, Visit, Adve
 use Rattle.model.specs.declared.Answer.{Answer}
 use Rattle.model.specs.declared.Answer.TheVariants.{Barring, Decided, BrokenOff, NoList}
 use Rattle.model.specs.declared.Holder.{Holder}
-use Rattle.model.specs.declared.Holder.TheVariants.{Card, Lock}
-use Rattle.model.specs.Run.{State, put, number, has, after_hearing, of_day, of_barring, step, answer, after}
-use Rattle.model.specs.Informed.{Made, BarringOf, Informed, at_desk, card_to_lock, stays}
-use Rattle.model.specs.Promise.{Shows, honest, adversary, Ends, Opens, TurnsAway, KnowsBarred, Unmoved, Promise, Main, Once, Numbered}
+use Rattle.model.specs.declared.Holder.TheVariants.{Lock}
+use Rattle.model.specs.Run.{State, number, has, after_hearing, of_day, of_barring, answer, after}
+use Rattle.model.specs.Informed.{BarringOf, Informed, at_desk, card_to_lock, stays}
+use Rattle.model.specs.Promise.{Shows, honest, adversary, Ends, Opens, TurnsAway, KnowsBarred, Unmoved, Main, Once, Numbered}
 use Rattle.model.proofs.Tables.{put_same, put_again, same_state}
-use Rattle.model.proofs.Held.{sound, kept, counted, told}
-use Rattle.model.proofs.Rows.{At, at_more, at_less, row_stays, row_stays_over, on_list, list_has, row_apart, row_short}
+use Rattle.model.proofs.Held.{kept, counted, told}
+use Rattle.model.proofs.Rows.{At, at_less, row_stays, row_stays_over, on_list, list_has, row_apart, row_short}
 
 -- a decision has one of the two numbers
 same_end : (v w : VisitEnd) → Decided v ≡ Decided w → v ≡ w

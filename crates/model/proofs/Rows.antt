@@ -1,15 +1,15 @@
 -- The row of barrings: it only grows, no card stands in it twice, and what is on a list with number n is a barring below n. Assumes nothing.
-use Rattle.std.proofs.Common.{◌≡◌, ℕ, zero, suc, ◌+◌, ◌<◌, ◌≤◌, min, Bool, true, false, cond, ◌⊎◌, List, [], ◌∷◌, ◌++◌, length, get_or, take, sym, refl, ap, ◌∙◌, inl, inr, not-suc-le-zero, arith}
+use Rattle.std.proofs.Common.{◌≡◌, ℕ, ◌<◌, ◌≤◌, true, false, ◌⊎◌, List, [], ◌∷◌, ◌++◌, length, get_or, take, sym, ◌∙◌, inl, inr, not-suc-le-zero, arith}
 use Rattle.std.proofs.lemmas.List.{length_push, length-take, get_or-take, get_or_append_left, get_or_push}
 use Rattle.std.proofs.lemmas.Bool.{cases_lt, both_ways}
-use Rattle.lists.specs.Listed.{listed, Stands}
+use Rattle.lists.specs.Listed.{listed}
 use Rattle.lists.proofs.Places.{stands, finds}
 use Rattle.office.specs.Desk.{barred_after}
 use Rattle.office.proofs.Bars.{bar_is}
 use Rattle.model.specs.declared.Event.{Event}
 use Rattle.model.specs.declared.Event.TheVariants.{Day, Bar, AtDesk, Visit, Adversary}
-use Rattle.model.specs.Run.{State, step, after}
-use Rattle.model.specs.Informed.{Made, BarringOf}
+use Rattle.model.specs.Run.{after}
+use Rattle.model.specs.Informed.{BarringOf}
 
 -- card c stands at place r of a row
 abbrev pub At : ℕ → ℕ → List ℕ → Type 0

@@ -2,7 +2,7 @@
 use Rattle.std.specs.Prelude.{◌≡◌, ℕ, List, [], ◌∷◌, ◌++◌, map, reverse, Some, None}
 use Rattle.faults.specs.Numbers.{end_number}
 use Rattle.model.specs.declared.Event.{Event}
-use Rattle.model.specs.declared.Event.TheVariants.{Day, Bar, AtDesk, Visit, Adversary}
+use Rattle.model.specs.declared.Event.TheVariants.{Bar, AtDesk, Visit, Adversary}
 use Rattle.model.specs.declared.Answer.{Answer}
 use Rattle.model.specs.declared.Answer.TheVariants.{Today, Barring, Given, Decided, BrokenOff, NoList}
 use Rattle.model.specs.declared.Holder.{Holder}

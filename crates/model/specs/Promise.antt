@@ -1,8 +1,7 @@
 -- What is promised of every run. Each is a type; a proof of the type is the theorem. Assumes nothing.
-use Rattle.std.specs.Prelude.{◌≡◌, ℕ, ◌<◌, ◌≤◌, Bool, true, false, ◌⊎◌, ◌↔◌, List, [], ◌∷◌, ◌++◌, length, get_or, Option}
+use Rattle.std.specs.Prelude.{◌≡◌, ℕ, ◌<◌, ◌≤◌, true, ◌⊎◌, ◌↔◌, List, ◌∷◌, ◌++◌, length, Option}
 use Rattle.faults.specs.declared.Fault.{Fault}
 use Rattle.faults.specs.declared.VisitEnd.{VisitEnd}
-use Rattle.faults.specs.declared.VisitEnd.TheVariants.{Opened, Refused}
 use Rattle.faults.specs.Numbers.{fault_number, end_number}
 use Rattle.visits.specs.Exchange.{comes}
 use Rattle.model.specs.declared.Event.{Event}
@@ -10,9 +9,9 @@ use Rattle.model.specs.declared.Event.TheVariants.{Bar, AtDesk, Visit, Adversary
 use Rattle.model.specs.declared.Answer.{Answer}
 use Rattle.model.specs.declared.Answer.TheVariants.{Today, Barring, Given, Decided, BrokenOff, NoList}
 use Rattle.model.specs.declared.Holder.{Holder}
-use Rattle.model.specs.declared.Holder.TheVariants.{Card, Lock}
-use Rattle.model.specs.Run.{State, number, has, step, answer, after}
-use Rattle.model.specs.Informed.{Made, BarringOf, Informed}
+use Rattle.model.specs.declared.Holder.TheVariants.{Lock}
+use Rattle.model.specs.Run.{State, number, has, answer, after}
+use Rattle.model.specs.Informed.{BarringOf, Informed}
 
 -- In the state s, the event is a visit that comes to the decision of lock l on card c: an honest card's always; an adversary's if it has what it gives, and gives a list where the lock awaits one.
 pub data Shows (s : State) : Event → ℕ → ℕ → Type 0 where

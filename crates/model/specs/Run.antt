@@ -1,5 +1,5 @@
 -- What each event brings about, and what a row of events leaves. Assumes nothing.
-use Rattle.std.specs.Prelude.{◌≡◌, ℕ, Bool, true, false, cond, ◌&&◌, List, [], ◌∷◌, ◌++◌, reverse, length, take, Some, None, Ok, Err, Option, Result, ◌==◌}
+use Rattle.std.specs.Prelude.{ℕ, Bool, true, cond, List, [], ◌∷◌, ◌++◌, reverse, length, take, Some, None, Ok, Err, Option, Result, ◌==◌}
 use Rattle.faults.specs.declared.Fault.{Fault}
 use Rattle.office.specs.Desk.{day_answer, day_after, bar_answer, barred_after, signed}
 use Rattle.visits.specs.Exchange.{newer, heard, comes, decision}

@@ -1,7 +1,7 @@
 -- A list of barred cards, card by card. Assumes nothing.
-use Rattle.std.proofs.Common.{◌≡◌, ℕ, ◌+◌, ◌<◌, ◌≤◌, List, [], ◌∷◌, ◌++◌, length, get_or, take, codes, decimal, sym, refl, ap, ◌∙◌, append_assoc, arith}
+use Rattle.std.proofs.Common.{◌≡◌, ℕ, ◌+◌, ◌<◌, List, [], ◌∷◌, ◌++◌, length, get_or, take, sym, refl, ap, ◌∙◌, arith}
 use Rattle.std.specs.List.{flat_map}
-use Rattle.std.proofs.lemmas.List.{flat_map_more, take_more, take_all}
+use Rattle.std.proofs.lemmas.List.{flat_map_more, take_more}
 use Rattle.script.specs.Texts.{one, bars_text}
 
 pub bars_more : (so after word cs : List ℕ) (i : ℕ) → i < length cs → so ≡ flat_map one (take i cs) → word ≡ one (get_or cs i 0) → after ≡ so ++ word → after ≡ flat_map one (take (i + 1) cs)

@@ -1,22 +1,21 @@
 -- A script is read as some commands exactly if it says them. Assumes nothing.
-use Rattle.std.proofs.Common.{◌≡◌, ℕ, ◌+◌, ◌<◌, ◌≤◌, Bool, true, false, cond, ◌||◌, eqb, ◌⊎◌, List, [], ◌∷◌, ◌++◌, map, length, Some, None, Ok, Err, vec_items, Option, Result, sym, refl, ap, ◌∙◌, subst, inl, inr, append_assoc, append-nil, add-zero, arith, length-append}
-use Rattle.std.specs.Option.{option_to_list}
+use Rattle.std.proofs.Common.{◌≡◌, ℕ, ◌+◌, ◌<◌, Bool, true, false, cond, eqb, List, [], ◌∷◌, ◌++◌, map, length, Some, None, Ok, Err, vec_items, Option, Result, sym, refl, ap, ◌∙◌, subst, inl, inr, append_assoc, append-nil, add-zero, arith, length-append}
 use Rattle.std.specs.List.{AllByRecursion}
-use Rattle.std.proofs.lemmas.Bool.{or_cases, or_left, or_right, eqb-true, eq-eqb, cases_Bool, cond-true, cond-false, both_ways}
+use Rattle.std.proofs.lemmas.Bool.{or_cases, or_left, or_right, eqb-true, eq-eqb, cond-true, cond-false, both_ways}
 use Rattle.commands.specs.declared.command.Command.{Command}
 use Rattle.commands.specs.declared.command.Command.TheVariants.{Lock, Card, Day, Bar, Desk, Visit, Thief}
 use Rattle.words.specs.declared.wrong.Wrong.{Wrong}
-use Rattle.words.specs.declared.wrong.Wrong.TheVariants.{NoNewline, Empty, NoSuchCard, NoSuchLock, SetUpAlready}
+use Rattle.words.specs.declared.wrong.Wrong.TheVariants.{NoSuchCard, NoSuchLock, SetUpAlready}
 use Rattle.script.specs.declared.LineFault.{LineFault}
 use Rattle.script.specs.declared.Script.{Script}
 use Rattle.script.specs.declared.ScriptError.{ScriptError}
 use Rattle.script.specs.declared.ScriptError.TheVariants.{Faulty, NoMemory}
 use Rattle.words.specs.Lines.{pieces, bare_of}
 use Rattle.words.specs.Words.{words_of}
-use Rattle.commands.specs.Commands.{Lawful, written, parsed, Read}
+use Rattle.commands.specs.Commands.{Lawful, written, parsed}
 use Rattle.commands.specs.Plays.{card_of, lock_of}
-use Rattle.script.specs.Setup.{cards_of, locks_of, has, is_new, known_card, known_lock, known_both, when_ok, checked, command_in, command_on, Above, Ready, InOrder}
-use Rattle.script.specs.Scripts.{fault_at, at_end, script_from, script_of, Is, filled, Sound, Says, NoCommand, Stops, FirstFault, ScriptLaw}
+use Rattle.script.specs.Setup.{cards_of, locks_of, has, known_lock, when_ok, checked, command_in, command_on, Above, Ready, InOrder}
+use Rattle.script.specs.Scripts.{fault_at, at_end, script_from, script_of, Is, filled, Says, NoCommand, Stops, FirstFault, ScriptLaw}
 use Rattle.words.proofs.Cuts.{pieces_some}
 use Rattle.commands.proofs.Spelt.{read_law, read_written}
 use Rattle.script.proofs.Turns.{go_on, line_then}

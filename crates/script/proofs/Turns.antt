@@ -1,5 +1,5 @@
 -- What one turn of `read` keeps. Assumes nothing.
-use Rattle.std.proofs.Common.{◌≡◌, ℕ, ◌+◌, ◌<◌, ◌≤◌, true, false, eqb, List, [], ◌∷◌, ◌++◌, length, Some, None, Ok, Err, vec_items, Option, Result, sym, refl, ap, ◌∙◌, subst, append-nil, arith}
+use Rattle.std.proofs.Common.{◌≡◌, ℕ, ◌+◌, ◌<◌, ◌≤◌, true, false, eqb, List, [], ◌∷◌, ◌++◌, length, Some, None, Ok, Err, vec_items, Option, Result, sym, refl, ap, ◌∙◌, append-nil, arith}
 use Rattle.std.specs.Option.{option_to_list}
 use Rattle.std.proofs.lemmas.List.{flat_map_more}
 use Rattle.std.proofs.lemmas.Bool.{eqb-true}
@@ -12,7 +12,7 @@ use Rattle.script.specs.declared.Script.{Script}
 use Rattle.words.specs.Lines.{pieces}
 use Rattle.commands.specs.Plays.{card_of, lock_of, event_of}
 use Rattle.script.specs.Setup.{cards_of, locks_of, events_of, command_on}
-use Rattle.script.specs.Scripts.{fault_at, at_end, script_from, script_of, Added, Lists}
+use Rattle.script.specs.Scripts.{fault_at, script_from, script_of, Added, Lists}
 use Rattle.words.proofs.Cuts.{pieces_some}
 
 -- after n lines, rest is left of the text

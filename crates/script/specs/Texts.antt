@@ -2,7 +2,6 @@
 use Rattle.std.specs.Prelude.{ℕ, List, [], ◌∷◌, ◌++◌, Some, None, codes, decimal, Option}
 use Rattle.std.specs.List.{flat_map}
 use Rattle.faults.specs.Numbers.{fault_number}
-use Rattle.faults.specs.declared.VisitEnd.{VisitEnd}
 use Rattle.faults.specs.declared.VisitEnd.TheVariants.{Opened, Refused as TurnedAway}
 use Rattle.commands.specs.Plays.{event_of}
 use Rattle.commands.specs.Commands.{written}

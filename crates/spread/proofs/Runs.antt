@@ -1,5 +1,5 @@
 -- A run, event by event, is the model's. Assumes nothing.
-use Rattle.std.proofs.Common.{◌≡◌, ℕ, zero, suc, ◌+◌, ◌<◌, ◌≤◌, Bool, true, false, cond, ◌⊎◌, List, [], ◌∷◌, ◌++◌, reverse, length, get_or, take, Some, None, Option, sym, refl, ap, ◌∙◌, subst, inl, inr, not-suc-le-zero, arith}
+use Rattle.std.proofs.Common.{◌≡◌, ℕ, ◌+◌, ◌<◌, ◌≤◌, Bool, List, [], ◌∷◌, ◌++◌, reverse, length, get_or, take, Some, None, Option, sym, refl, ap, ◌∙◌, subst, inl, inr, not-suc-le-zero, arith}
 use mathlib.Core.List.{reverse-append}
 use Rattle.std.proofs.lemmas.List.{take_more, take_all, length_push, get_or_push, get_or_append_left, get_or_default}
 use Rattle.std.proofs.lemmas.Bool.{cases_lt}
@@ -8,7 +8,7 @@ use Rattle.model.specs.declared.Event.TheVariants.{Day, Bar, AtDesk, Visit, Adve
 use Rattle.model.specs.declared.Answer.{Answer}
 use Rattle.model.specs.declared.Holder.{Holder}
 use Rattle.model.specs.declared.Holder.TheVariants.{Card, Lock}
-use Rattle.model.specs.Run.{State, start, step, answer, after, before}
+use Rattle.model.specs.Run.{step, answer, after, before}
 use Rattle.model.specs.Promise.{Promise}
 use Rattle.model.proofs.Promised.{main}
 use Rattle.world.specs.declared.state.World.{World}

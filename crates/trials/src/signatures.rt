@@ -42,7 +42,7 @@ fn sealed_memory(rt: HostRuntime) {
     let mut bytes = [0; 70];
     bytes[0..6].copy_from_slice(MESSAGE);
     assert!(rt; seal(&key, &mut bytes, 7).is_none());
-    assert!(rt; &bytes[6..70] == &[0; 64]);
+    assert!(rt; &bytes[6..70] == [0; 64].as_slice());
     assert!(rt; seal(&key, &mut bytes, 6) == Some(70));
     assert!(rt; &bytes[6..70] == SIGNATURE);
     assert!(rt; is_signed(&key, &bytes));

@@ -1,5 +1,5 @@
 -- What a lock does with what it hears, case by case. Assumes nothing.
-use Rattle.std.proofs.Common.{◌≡◌, ℕ, ◌<◌, ◌≤◌, Bool, true, false, cond, ◌&&◌, eqb, ltb, leb, ◌⊎◌, List, Some, None, Option, sym, refl, ap, ◌∙◌, inl, inr}
+use Rattle.std.proofs.Common.{◌≡◌, ℕ, ◌<◌, ◌≤◌, true, false, ◌&&◌, eqb, ltb, ◌⊎◌, List, Some, None, Option, refl, ap, ◌∙◌, inl, inr}
 use Rattle.std.proofs.lemmas.Bool.{lt-ltb, le-ltb, le-leb, lt-leb, eq-eqb, ne_eqb, cond-true, cond-false, cases_Bool, and_parts, and_left, and_right, and_from, ltb-true, eqb-true, both_ways}
 use Rattle.faults.specs.declared.Fault.TheVariants.{Barred}
 use Rattle.faults.specs.declared.VisitEnd.TheVariants.{Opened, Refused}

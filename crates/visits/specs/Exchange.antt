@@ -1,5 +1,5 @@
 -- How lists go over in a visit, by their numbers, and the lock's decision. Assumes nothing.
-use Rattle.std.specs.Prelude.{◌≡◌, ℕ, Bool, true, false, cond, ◌&&◌, List, Some, None, Option, ◌==◌, nat_le, nat_lt}
+use Rattle.std.specs.Prelude.{ℕ, Bool, true, cond, ◌&&◌, List, Some, None, Option, ◌==◌, nat_le, nat_lt}
 use Rattle.faults.specs.declared.Fault.TheVariants.{Barred}
 use Rattle.faults.specs.declared.VisitEnd.{VisitEnd}
 use Rattle.faults.specs.declared.VisitEnd.TheVariants.{Opened, Refused}

@@ -1,9 +1,9 @@
 -- A number after a key word, or nothing. Assumes nothing.
-use Rattle.std.proofs.Common.{◌≡◌, ℕ, Bool, true, false, cond, ◌⊎◌, List, [], ◌∷◌, ◌++◌, Some, None, Ok, Err, Option, Result, sym, refl, ap, ◌∙◌, inl, inr}
+use Rattle.std.proofs.Common.{◌≡◌, ℕ, true, false, List, ◌∷◌, Some, None, Ok, Err, Result, sym, ap, ◌∙◌}
 use Rattle.std.specs.Str.{bytes_eq}
-use Rattle.std.proofs.lemmas.Bool.{cases_Bool, cond-true, cond-false}
+use Rattle.std.proofs.lemmas.Bool.{cond-true, cond-false}
 use Rattle.words.specs.declared.wrong.Wrong.{Wrong}
-use Rattle.words.specs.Words.{Reading, then, with, number_from, option_from}
+use Rattle.words.specs.Words.{then, with, number_from, option_from}
 
 pub other : (key w : List ℕ) (ls ws : List (List ℕ)) → ls ≡ w ∷ ws → false ≡ bytes_eq w key → Ok (None, ls) ≡ option_from key ls
 other key w ls ws e ne = rw e (sym (cond-false _ _ _ (sym ne)))

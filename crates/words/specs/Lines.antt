@@ -1,5 +1,5 @@
 -- How a text is cut into lines and a line into words, and what a line says. Assumes nothing.
-use Rattle.std.specs.Prelude.{ℕ, Bool, true, false, cond, ◌||◌, List, [], ◌∷◌, reverse, ◌==◌}
+use Rattle.std.specs.Prelude.{ℕ, Bool, cond, ◌||◌, List, [], ◌∷◌, reverse, ◌==◌}
 
 abbrev pub on_first : ℕ → List (List ℕ) → List (List ℕ)
 on_first b [] = (b ∷ []) ∷ []

@@ -1,18 +1,16 @@
 -- What a visit does to the tables of a world is what it does in the model. Assumes nothing.
-use Rattle.std.proofs.Common.{◌≡◌, ℕ, ◌<◌, Bool, true, false, List, length, get_or, take, set, is_some, Some, None, Option, sym, refl, ap, ◌∙◌}
+use Rattle.std.proofs.Common.{◌≡◌, ℕ, ◌<◌, true, false, List, length, get_or, take, set, is_some, Some, None, Option, sym, refl, ap, ◌∙◌}
 use Rattle.std.proofs.lemmas.Bool.{cond-true, cond-false}
-use Rattle.faults.specs.declared.VisitEnd.{VisitEnd}
-use Rattle.visits.specs.Exchange.{newer, heard, comes, decision}
+use Rattle.visits.specs.Exchange.{newer, comes, decision}
 use Rattle.visits.proofs.Heard.{undecided as heard_nothing}
 use Rattle.visits.specs.declared.Card.{Card as CardMemory}
 use Rattle.visits.specs.declared.Lock.{Lock as LockMemory}
-use Rattle.model.specs.declared.Event.{Event}
 use Rattle.model.specs.declared.Event.TheVariants.{Visit, Adversary}
 use Rattle.model.specs.declared.Answer.{Answer}
 use Rattle.model.specs.declared.Answer.TheVariants.{Decided, BrokenOff, NoList}
 use Rattle.model.specs.declared.Holder.{Holder}
 use Rattle.model.specs.declared.Holder.TheVariants.{Card, Lock}
-use Rattle.model.specs.Run.{State, put, has, after_hearing, step, answer}
+use Rattle.model.specs.Run.{State, has, after_hearing, step, answer}
 use Rattle.model.proofs.Tables.{put_again, same_state}
 use Rattle.world.specs.Roster.{missing}
 use Rattle.world.specs.World.{card_list, lock_list, state_from, roster_from}

@@ -1,8 +1,8 @@
-use Rattle.std.proofs.Common.{◌≡◌, ◌<◌, [], ◌∷◌, length, Ok, Err, vec_items, sym, refl, ap, ◌∙◌, subst, arith}
+use Rattle.std.proofs.Common.{◌<◌, [], ◌∷◌, length, Ok, Err, vec_items, sym, ap, ◌∙◌, arith}
 use Rattle.std.proofs.lemmas.Result.{err_from_is_err_and}
 use Rattle.script.specs.declared.ScriptError.TheVariants.{Faulty}
 use Rattle.script.specs.Scripts.{fault_at}
-use Rattle.script.proofs.Turns.{SoFar, wrong_line, no_command, one_command, no_newline, all_read, nothing_read, not_empty, is_empty}
+use Rattle.script.proofs.Turns.{wrong_line, no_command, one_command, no_newline, all_read, nothing_read, not_empty, is_empty}
 use Rattle.script.proofs.Says.{script_law}
 use Rattle.script.proofs.read.Goals as goal
 

@@ -1,4 +1,4 @@
-use Rattle.std.proofs.Common.{◌≡◌, sym, ◌∙◌}
+use Rattle.std.proofs.Common.{sym, ◌∙◌}
 use Rattle.visits.proofs.Heard.{refuses, opens}
 use Rattle.visits.proofs.decide.Goals as goal
 

@@ -1,4 +1,4 @@
-use Rattle.std.proofs.Common.{◌≡◌, ℕ, ◌<◌, Some, None, Option, sym, refl, ap, ◌∙◌, arith}
+use Rattle.std.proofs.Common.{sym, ap, ◌∙◌}
 use Rattle.visits.specs.Exchange.{heard, comes}
 use Rattle.visits.proofs.Heard.{not_awaited, none_given, taken, other_number}
 use Rattle.visits.proofs.Lock.hear.Goals as goal

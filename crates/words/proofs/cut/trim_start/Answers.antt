@@ -1,4 +1,4 @@
-use Rattle.std.proofs.Common.{sym, refl, ◌∙◌, arith}
+use Rattle.std.proofs.Common.{sym, ◌∙◌, arith}
 use Rattle.std.proofs.lemmas.List.{take_rest}
 use Rattle.words.proofs.Cuts.{front_more, front_done, front_end}
 use Rattle.words.proofs.cut.trim_start.Goals as goal

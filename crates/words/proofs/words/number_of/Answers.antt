@@ -1,4 +1,4 @@
-use Rattle.std.proofs.Common.{◌≡◌, length, sym, refl, ap, ◌∙◌, arith}
+use Rattle.std.proofs.Common.{sym, ◌∙◌, arith}
 use Rattle.words.proofs.Numbers.{numeral_digit, read_more, read_all, not_numeral, too_large, is_number}
 use Rattle.words.proofs.words.number_of.Goals as goal
 

@@ -1,4 +1,4 @@
-use Rattle.std.proofs.Common.{◌≡◌, ◌<◌, ◌≤◌, true, false, length, Ok, Err, sym, refl, ap, ◌∙◌, arith}
+use Rattle.std.proofs.Common.{◌≡◌, ◌<◌, ◌≤◌, true, false, length, Ok, sym, refl, ap, ◌∙◌, arith}
 use Rattle.lists.specs.Listed.{listed}
 use Rattle.office.proofs.Bars.{full, twice, once}
 use Rattle.office.proofs.desk.Desk.bar.Goals as goal

@@ -1,4 +1,4 @@
-use Rattle.std.proofs.Common.{arith, rules}
+use Rattle.std.proofs.Common.{arith}
 use Rattle.std.proofs.lemmas.Bool.Decides.{nat_tests}
 use Rattle.office.specs.Desk.{signed}
 use Rattle.office.proofs.desk.Desk.has_signed.Goals as goal

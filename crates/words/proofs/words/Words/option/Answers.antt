@@ -1,4 +1,3 @@
-use Rattle.std.proofs.Common.{sym, refl, ap, ◌∙◌}
 use Rattle.std.proofs.lemmas.Result.{err_from_is_err_and}
 use Rattle.words.proofs.Options.{other, keyed_err, keyed_ok}
 use Rattle.words.proofs.words.Words.option.Goals as goal

@@ -1,4 +1,4 @@
-use Rattle.std.proofs.Common.{◌≡◌, ◌<◌, true, false, length, get_or, Some, None, sym, refl, ◌∙◌, arith}
+use Rattle.std.proofs.Common.{◌≡◌, ◌<◌, length, get_or, Some, None, sym, refl, ◌∙◌, arith}
 use Rattle.world.proofs.Moved.{both_there, broken_says, broken_state}
 use Rattle.world.proofs.state.World.adversary.Goals as goal
 

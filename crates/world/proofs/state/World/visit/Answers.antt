@@ -1,4 +1,4 @@
-use Rattle.std.proofs.Common.{◌≡◌, ◌<◌, length, get_or, Some, None, sym, ap, ◌∙◌, arith}
+use Rattle.std.proofs.Common.{◌≡◌, ◌<◌, length, get_or, Some, None, sym, ◌∙◌, arith}
 use Rattle.world.proofs.Moved.{both_there, visit_state, visit_says, same_roster}
 use Rattle.world.proofs.state.World.visit.Goals as goal
 

@@ -1,4 +1,4 @@
-use Rattle.std.proofs.Common.{◌≡◌, arith}
+use Rattle.std.proofs.Common.{arith}
 use Rattle.std.proofs.lemmas.List.{take_all}
 use Rattle.world.proofs.Places.{table_none, table_more, only_none}
 use Rattle.world.proofs.state.setup.table.Goals as goal
