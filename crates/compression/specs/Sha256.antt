@@ -1,4 +1,5 @@
--- SHA-256 as RFC 6234 defines it, in the RFC's order and with its names, to be held beside it. Assumes nothing.
+-- SHA-256 as RFC 6234 defines it, in the RFC's order and with its names in small letters, to be held beside it; its constants K are
+-- `round_constants`, its H(0) is `initial_hash`, and NOT is `bit_not`. Assumes nothing.
 --
 -- A byte is a number below 2 ^ 8 and a word one below 2 ^ 32 (section 2). A message is a list of bytes.
 use Rattle.std.specs.Prelude.{ℕ, zero, suc, ◌+◌, ◌-◌, ◌*◌, ◌/◌, ◌%◌, ◌^◌, List, [], ◌∷◌, ◌++◌, length, take, drop, replicate, bit_and, bit_or, bit_xor, slice_index}
