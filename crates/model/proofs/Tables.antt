@@ -1,4 +1,4 @@
--- What `newer`, `put` and `after-hearing` give, case by case; when two states are one. Assumes nothing.
+-- What `newer`, `put` and `after_hearing` give, case by case; when two states are one. Assumes nothing.
 use Rattle.std.proofs.Common.{◌≡◌, ℕ, ◌<◌, ◌≤◌, true, eqb, ltb, ◌⊎◌, Some, Option, refl, ◌∙◌, inl, inr, le_refl, arith}
 use Rattle.std.proofs.lemmas.Bool.{cond-true, cond-false, cases_Bool, cases_lt, ltb-true, ltb-false, eqb-true, eqb-false, eq-eqb}
 use Rattle.visits.specs.Exchange.{newer, heard}

@@ -1,13 +1,12 @@
 // Plays a script of barrings and visits, and prints what came of each line.
 #![tactic(auto)]
 
-use anyhow::anyhow;
-use script::{lock_line, read, report};
+use script::{ScriptError, lock_line, read, report};
 use spread::run;
 use std::alloc::{AllocError, Global};
 use std::io::Read;
 use std::process::ExitCode;
-use std::{env, fs};
+use std::{env, fmt, fs, io};
 use world::World;
 
 const HELP: &str = "\
@@ -32,8 +31,44 @@ Each line prints itself and what came of it: ready, today, barring N, list T, op
 turned away N, broken off, no list, or refused N.
 ";
 
+// Why nothing was played, or why what came of it could not be printed.
+#[derive(Drop)]
+enum Failure {
+    Unread { path: String, error: io::Error },
+    Faulty(ScriptError),
+    NotSetUp,
+    TwoScripts,
+    Io(io::Error),
+    Memory(AllocError),
+}
+
+impl fmt::Display for Failure {
+    fn fmt<W: fmt::Write>(&self, f: &mut fmt::Formatter<W>) -> fmt::Result {
+        match self {
+            Failure::Unread { path, error } => write!(f, "{path}: {error}"),
+            Failure::Faulty(error) => write!(f, "{error}"),
+            Failure::NotSetUp => write!(f, "a card or lock is not set up"),
+            Failure::TwoScripts => write!(f, "one script at a time; see valley --help"),
+            Failure::Io(error) => write!(f, "{error}"),
+            Failure::Memory(error) => write!(f, "{error}"),
+        }
+    }
+}
+
+impl From<io::Error> for Failure {
+    fn from(error: io::Error) -> Failure {
+        Failure::Io(error)
+    }
+}
+
+impl From<AllocError> for Failure {
+    fn from(error: AllocError) -> Failure {
+        Failure::Memory(error)
+    }
+}
+
 // What is to be played: a file's text, or standard input's.
-fn text_of(rt: &HostRuntime, path: Option<String>) -> anyhow::Result<Vec<u8>> {
+fn text_of(rt: &HostRuntime, path: Option<String>) -> Result<Vec<u8>, Failure> {
     let heap = rt.alloc();
     let Some(path) = path else {
         let mut text = Vec::new(heap);
@@ -42,7 +77,7 @@ fn text_of(rt: &HostRuntime, path: Option<String>) -> anyhow::Result<Vec<u8>> {
     };
     match fs::read(rt, path.as_str()) {
         Ok(text) => Ok(text),
-        Err(error) => Err(anyhow!(format!(in heap; "{path}: {error}")?)),
+        Err(error) => Err(Failure::Unread { path, error }),
     }
 }
 
@@ -60,16 +95,16 @@ fn closing(heap: Global, world: &World, locks: &[u16]) -> Result<String, AllocEr
     Ok(text)
 }
 
-fn play(rt: &HostRuntime, text: &[u8]) -> anyhow::Result<()> {
+fn play(rt: &HostRuntime, text: &[u8]) -> Result<(), Failure> {
     let heap = rt.alloc();
     let mut script = match read(heap, text) {
         Ok(script) => script,
-        Err(error) => return Err(anyhow!(format!(in heap; "{error}")?)),
+        Err(error) => return Err(Failure::Faulty(error)),
     };
     let mut world = World::new(heap, script.cards.as_slice(), script.locks.as_slice())?;
     let mut answers = Vec::with_capacity(heap, script.events.len())?;
     let Ok(()) = run(&mut world, script.events.as_slice(), &mut answers) else {
-        return Err(anyhow!("a card or lock is not set up"));
+        return Err(Failure::NotSetUp);
     };
     rt.print(report(heap, script.commands.as_slice(), answers.as_slice())?)?;
     script.locks.sort_unstable();
@@ -77,11 +112,11 @@ fn play(rt: &HostRuntime, text: &[u8]) -> anyhow::Result<()> {
     Ok(())
 }
 
-fn valley(rt: &HostRuntime) -> anyhow::Result<()> {
+fn valley(rt: &HostRuntime) -> Result<(), Failure> {
     let mut args = env::args(rt)?.skip(1);
     let path = args.next();
     if args.next().is_some() {
-        return Err(anyhow!("one script at a time; see valley --help"));
+        return Err(Failure::TwoScripts);
     }
     if let Some(word) = &path {
         if word.as_str() == "--help" {

@@ -1,12 +1,11 @@
 // Holds digests and HMAC tags to published values.
 #![tactic(auto)]
 
-use anyhow::anyhow;
 use digest::{Hasher, Hmac, TooLong, hmac_sha256, sha256};
-use std::alloc::Global;
+use std::alloc::{AllocError, AllocFailed, Global};
 use std::io::Write;
 use std::process::ExitCode;
-use std::{env, fs};
+use std::{env, fmt, fs, io};
 use words::Words;
 use words::cut::{bare, cut};
 
@@ -24,6 +23,89 @@ at the limits of a block, and prints a line for each. It ends with status 1 if o
 Byte strings are in hexadecimal digits; - is the empty one.
 ";
 
+// What is wrong with a line, or why it could not be told.
+#[derive(Drop)]
+enum LineError {
+    Wrong(&'static str),
+    Io(io::Error),
+    Memory(AllocError),
+}
+
+impl fmt::Display for LineError {
+    fn fmt<W: fmt::Write>(&self, f: &mut fmt::Formatter<W>) -> fmt::Result {
+        match self {
+            LineError::Wrong(text) => write!(f, "{text}"),
+            LineError::Io(error) => write!(f, "{error}"),
+            LineError::Memory(error) => write!(f, "{error}"),
+        }
+    }
+}
+
+impl From<io::Error> for LineError {
+    fn from(error: io::Error) -> LineError {
+        LineError::Io(error)
+    }
+}
+
+impl<T: Drop> From<AllocFailed<T>> for LineError {
+    fn from(failed: AllocFailed<T>) -> LineError {
+        LineError::Memory(AllocError::from(failed))
+    }
+}
+
+impl From<AllocError> for LineError {
+    fn from(error: AllocError) -> LineError {
+        LineError::Memory(error)
+    }
+}
+
+// Why the values of the files do not hold, or are not known to.
+#[derive(Drop)]
+enum Failure {
+    Unread {
+        path: String,
+        error: io::Error,
+    },
+    Line {
+        path: String,
+        number: usize,
+        error: LineError,
+    },
+    NoFile,
+    Differs,
+    Io(io::Error),
+    Memory(AllocError),
+}
+
+impl fmt::Display for Failure {
+    fn fmt<W: fmt::Write>(&self, f: &mut fmt::Formatter<W>) -> fmt::Result {
+        match self {
+            Failure::Unread { path, error } => write!(f, "{path}: {error}"),
+            Failure::Line {
+                path,
+                number,
+                error,
+            } => write!(f, "{path}, line {number}: {error}"),
+            Failure::NoFile => write!(f, "a file is expected; see vectors --help"),
+            Failure::Differs => write!(f, "a value differs"),
+            Failure::Io(error) => write!(f, "{error}"),
+            Failure::Memory(error) => write!(f, "{error}"),
+        }
+    }
+}
+
+impl From<io::Error> for Failure {
+    fn from(error: io::Error) -> Failure {
+        Failure::Io(error)
+    }
+}
+
+impl From<AllocError> for Failure {
+    fn from(error: AllocError) -> Failure {
+        Failure::Memory(error)
+    }
+}
+
 fn digit(byte: u8) -> Option<u8> {
     match byte {
         b'0'..=b'9' => Some(byte - b'0'),
@@ -32,7 +114,7 @@ fn digit(byte: u8) -> Option<u8> {
     }
 }
 
-fn bytes_of(heap: Global, word: &[u8]) -> anyhow::Result<Vec<u8>> {
+fn bytes_of(heap: Global, word: &[u8]) -> Result<Vec<u8>, LineError> {
     let mut bytes = Vec::new(heap);
     if word == b"-".as_slice() {
         return Ok(bytes);
@@ -40,7 +122,7 @@ fn bytes_of(heap: Global, word: &[u8]) -> anyhow::Result<Vec<u8>> {
     let mut half = None;
     for byte in word {
         let Some(low) = digit(*byte) else {
-            return Err(anyhow!("a hexadecimal digit is expected"));
+            return Err(LineError::Wrong("a hexadecimal digit is expected"));
         };
         match half {
             None => half = Some(low),
@@ -52,22 +134,22 @@ fn bytes_of(heap: Global, word: &[u8]) -> anyhow::Result<Vec<u8>> {
     }
     match half {
         None => Ok(bytes),
-        Some(_) => Err(anyhow!("an odd number of hexadecimal digits")),
+        Some(_) => Err(LineError::Wrong("an odd number of hexadecimal digits")),
     }
 }
 
-fn next<'a>(words: &mut Words<'a>) -> anyhow::Result<&'a [u8]> {
+fn next<'a>(words: &mut Words<'a>) -> Result<&'a [u8], LineError> {
     match words.next() {
         Ok(word) => Ok(word),
-        Err(_) => Err(anyhow!("a word is missing")),
+        Err(_) => Err(LineError::Wrong("a word is missing")),
     }
 }
 
-fn next_bytes(heap: Global, words: &mut Words<'_>) -> anyhow::Result<Vec<u8>> {
+fn next_bytes(heap: Global, words: &mut Words<'_>) -> Result<Vec<u8>, LineError> {
     bytes_of(heap, next(words)?)
 }
 
-fn repeated(heap: Global, message: &[u8], times: u32) -> anyhow::Result<Vec<u8>> {
+fn repeated(heap: Global, message: &[u8], times: u32) -> Result<Vec<u8>, LineError> {
     let mut all = Vec::new(heap);
     for _ in 0..times {
         all.extend_from_slice(message)?;
@@ -144,14 +226,14 @@ fn begins(bytes: &[u8; 32], front: &[u8]) -> bool {
 }
 
 // Whether the digest that a line has is the one of its message, taken whole, by its repetitions and cut at limits.
-fn digest_holds(heap: Global, words: &mut Words<'_>) -> anyhow::Result<bool> {
+fn digest_holds(heap: Global, words: &mut Words<'_>) -> Result<bool, LineError> {
     let message = next_bytes(heap, words)?;
     let Ok(times) = words.number() else {
-        return Err(anyhow!("a number is expected"));
+        return Err(LineError::Wrong("a number is expected"));
     };
     let published = next_bytes(heap, words)?;
     if published.len() != 32 {
-        return Err(anyhow!("a digest has 32 bytes"));
+        return Err(LineError::Wrong("a digest has 32 bytes"));
     }
     let Ok(by_times) = digest_of_times(message.as_slice(), times) else {
         return Ok(false);
@@ -165,12 +247,12 @@ fn digest_holds(heap: Global, words: &mut Words<'_>) -> anyhow::Result<bool> {
 }
 
 // Whether the tag that a line has, or what is published of it, is the one of its message, taken whole and cut at limits.
-fn tag_holds(heap: Global, words: &mut Words<'_>) -> anyhow::Result<bool> {
+fn tag_holds(heap: Global, words: &mut Words<'_>) -> Result<bool, LineError> {
     let key = next_bytes(heap, words)?;
     let message = next_bytes(heap, words)?;
     let published = next_bytes(heap, words)?;
     if published.len() < 16 || published.len() > 32 {
-        return Err(anyhow!("a tag has 16 to 32 bytes"));
+        return Err(LineError::Wrong("a tag has 16 to 32 bytes"));
     }
     let whole = hmac_sha256(key.as_slice(), message.as_slice());
     let Ok(cut) = tag_cut_at_limits(key.as_slice(), message.as_slice(), published.as_slice()) else {
@@ -180,7 +262,7 @@ fn tag_holds(heap: Global, words: &mut Words<'_>) -> anyhow::Result<bool> {
 }
 
 // One line: its first two words are printed, and whether its value holds.
-fn hold(rt: &HostRuntime, line: &[u8]) -> anyhow::Result<bool> {
+fn hold(rt: &HostRuntime, line: &[u8]) -> Result<bool, LineError> {
     let heap = rt.alloc();
     let mut words = Words { rest: Some(line) };
     let kind = next(&mut words)?;
@@ -190,10 +272,10 @@ fn hold(rt: &HostRuntime, line: &[u8]) -> anyhow::Result<bool> {
     } else if kind == b"hmac".as_slice() {
         tag_holds(heap, &mut words)?
     } else {
-        return Err(anyhow!("sha256 or hmac is expected"));
+        return Err(LineError::Wrong("sha256 or hmac is expected"));
     };
     let Ok(()) = words.end() else {
-        return Err(anyhow!("a word too many"));
+        return Err(LineError::Wrong("a word too many"));
     };
     let mut out = rt.stdout();
     out.write_all(kind)?;
@@ -204,11 +286,14 @@ fn hold(rt: &HostRuntime, line: &[u8]) -> anyhow::Result<bool> {
 }
 
 // Whether every value of a file holds.
-fn hold_all(rt: &HostRuntime, path: &str) -> anyhow::Result<bool> {
+fn hold_all(rt: &HostRuntime, path: &str) -> Result<bool, Failure> {
     let heap = rt.alloc();
     let text = match fs::read(rt, path) {
         Ok(text) => text,
-        Err(error) => return Err(anyhow!(format!(in heap; "{path}: {error}")?)),
+        Err(error) => {
+            let path = String::from_str(heap, path)?;
+            return Err(Failure::Unread { path, error });
+        }
     };
     let mut all = true;
     let mut rest = Some(text.as_slice());
@@ -224,13 +309,20 @@ fn hold_all(rt: &HostRuntime, path: &str) -> anyhow::Result<bool> {
         }
         match hold(rt, said) {
             Ok(holds) => all = all && holds,
-            Err(error) => return Err(anyhow!(format!(in heap; "{path}, line {number}: {error}")?)),
+            Err(error) => {
+                let path = String::from_str(heap, path)?;
+                return Err(Failure::Line {
+                    path,
+                    number,
+                    error,
+                });
+            }
         }
     }
     Ok(all)
 }
 
-fn vectors(rt: &HostRuntime) -> anyhow::Result<()> {
+fn vectors(rt: &HostRuntime) -> Result<(), Failure> {
     let mut all = true;
     let mut none = true;
     for path in env::args(rt)?.skip(1) {
@@ -242,13 +334,9 @@ fn vectors(rt: &HostRuntime) -> anyhow::Result<()> {
         all = hold_all(rt, path.as_str())? && all;
     }
     if none {
-        return Err(anyhow!("a file is expected; see vectors --help"));
+        return Err(Failure::NoFile);
     }
-    if all {
-        Ok(())
-    } else {
-        Err(anyhow!("a value differs"))
-    }
+    if all { Ok(()) } else { Err(Failure::Differs) }
 }
 
 // What is wrong is said once, in plain words: an error that `main` returned would be printed again.
