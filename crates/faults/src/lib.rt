@@ -4,50 +4,38 @@
 ghost use Rattle.std.specs.Prelude.{◌≡◌};
 ghost use Rattle.faults.specs.Numbers.{fault_number, NumbersTell};
 
-// The ten causes of a refusal. What is refused changes nothing. `fault_number` gives each its number in print and on the wire.
-#[derive(Clone, Copy)]
+// The ten causes of a refusal, each with its number in print and on the wire. What is refused changes nothing.
+#[derive(Clone, Copy, Debug, PartialEq, Eq)]
 pub enum Fault {
-    UnknownForm,
-    OutOfRange,
-    WrongSignature,
-    OtherGroup,
-    RunOut,
-    Barred,
-    NotAwaited,
-    OlderList,
-    ListFull,
-    BarredAlready,
+    UnknownForm = 1,
+    OutOfRange = 2,
+    WrongSignature = 3,
+    OtherGroup = 4,
+    RunOut = 5,
+    Barred = 6,
+    NotAwaited = 7,
+    OlderList = 8,
+    ListFull = 9,
+    BarredAlready = 10,
 }
 
-impl Fault {
-    pub fn number(self) -> u8
-        ensures { result ≡ fault_number self }
-    {
-        match self {
-            Fault::UnknownForm => 1,
-            Fault::OutOfRange => 2,
-            Fault::WrongSignature => 3,
-            Fault::OtherGroup => 4,
-            Fault::RunOut => 5,
-            Fault::Barred => 6,
-            Fault::NotAwaited => 7,
-            Fault::OlderList => 8,
-            Fault::ListFull => 9,
-            Fault::BarredAlready => 10,
-        }
+impl From<Fault> for u8 {
+    ghost from_gives = { λ fault number. number ≡ fault_number fault };
+
+    fn from(fault: Fault) -> u8 {
+        fault as u8
     }
 }
 
-// What a lock decides at the end of a visit: it opens, or it turns the card away for a cause.
-#[derive(Clone, Copy)]
+// What a lock decides at the end of a visit: it opens, or it turns the card away for a cause. An enum of its own, as was asked for, in the place of a Result: to be turned away is no error.
+#[derive(Clone, Copy, Debug, PartialEq, Eq)]
 pub enum VisitEnd {
     Opened,
     Refused(Fault),
 }
 
 // The theorem that a number tells the cause.
-pub fn numbers_tell() -> u8
+#[tactic(auto, using(crate::proofs::Tells::tells))]
+pub fn numbers_tell()
     ensures { NumbersTell }
-{
-    0
-}
+{}
