@@ -1,7 +1,6 @@
 -- What the desk answers to a barring, case by case. Assumes nothing.
-use Rattle.std.proofs.Common.{◌≡◌, ℕ, ◌-◌, ◌<◌, ◌≤◌, min, true, false, ltb, leb, ◌⊎◌, List, [], ◌∷◌, ◌++◌, length, take, Ok, Err, sym, ap, ◌∙◌, inl, inr, arith}
+use Rattle.std.proofs.Common.{◌≡◌, ℕ, ◌<◌, ◌≤◌, true, false, ltb, leb, ◌⊎◌, List, [], ◌∷◌, ◌++◌, length, Ok, Err, inl, inr}
 use Rattle.std.proofs.lemmas.Bool.{lt-ltb, le-ltb, cases_lt, cases_Bool, and_parts, ltb-true, leb-true}
-use Rattle.std.proofs.lemmas.List.{take_all}
 use Rattle.faults.specs.declared.Fault.{Fault}
 use Rattle.faults.specs.declared.Fault.TheVariants.{ListFull, BarredAlready}
 use Rattle.lists.specs.Listed.{listed}
@@ -19,14 +18,6 @@ pub once : (c : ℕ) (bars : List ℕ) → length bars < 1024 → listed c bars 
     (bar_answer c bars ≡ Ok (length bars)) × (barred_after c bars ≡ bars ++ (c ∷ []))
 unfolding bar_answer barred_after
 once c bars lt f = let e = lt-ltb (length bars) 1024 lt in (rw (e, f), rw (e, f))
-
--- a part from the start, cut at the length
-pub take_within : (n m : ℕ) (xs : List ℕ) → m ≡ min n (length xs) → take (m - 0) xs ≡ take n xs
-take_within n m xs e =
-    elim (cases_lt n (length xs)) [
-      | inl h ↦ ap (λ (k : ℕ). take k xs) (omega arith)
-      | inr h ↦ take_all (m - 0) xs (omega arith) ∙ sym (take_all n xs h)
-    ]
 
 -- a barring is refused, and nothing changes; or the card, which stood nowhere yet, is the next in the row
 pub bar_is : (c : ℕ) (bars : List ℕ) →

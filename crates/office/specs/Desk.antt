@@ -1,12 +1,17 @@
 -- What the desk answers, and what it has then, by its day and the row of all cards that it barred, the first first. Assumes nothing.
-use Rattle.std.specs.Prelude.{◌≡◌, ℕ, Bool, cond, ◌&&◌, List, [], ◌∷◌, ◌++◌, length, is_ok, Ok, Err, Result, nat_le, nat_lt}
+use Rattle.std.specs.Prelude.{ℕ, Bool, cond, ◌&&◌, List, [], ◌∷◌, ◌++◌, length, is_ok, Ok, Err, Result, nat_le, nat_lt}
 use Rattle.faults.specs.declared.Fault.{Fault}
 use Rattle.faults.specs.declared.Fault.TheVariants.{OutOfRange, ListFull, BarredAlready}
 use Rattle.lists.specs.Listed.{listed}
 
+-- what the desk has: its day, and the row of all cards that it barred
+pub record Books : Type 0 where
+  pub day : ℕ
+  pub barred : List ℕ
+
 -- a new desk: day 0, nobody barred
-abbrev pub Fresh : ℕ → List ℕ → Type 0
-Fresh day bars = (day ≡ 0) × (bars ≡ [])
+abbrev pub fresh : Books
+fresh = record { day = 0; barred = [] }
 
 -- an earlier day than today is refused
 abbrev pub day_answer : ℕ → ℕ → Result (Unit {0}) Fault

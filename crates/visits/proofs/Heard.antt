@@ -1,6 +1,6 @@
 -- What a lock does with what it hears, case by case. Assumes nothing.
 use Rattle.std.proofs.Common.{◌≡◌, ℕ, ◌<◌, ◌≤◌, true, false, ◌&&◌, eqb, ltb, ◌⊎◌, List, Some, None, Option, refl, ap, ◌∙◌, inl, inr}
-use Rattle.std.proofs.lemmas.Bool.{lt-ltb, le-ltb, le-leb, lt-leb, eq-eqb, ne_eqb, cond-true, cond-false, cases_Bool, and_parts, and_left, and_right, and_from, ltb-true, eqb-true, both_ways}
+use Rattle.std.proofs.lemmas.Bool.{lt-ltb, le-ltb, le-leb, eq-eqb, cond-true, cond-false, cases_Bool, and_parts, and_left, and_from, ltb-true, eqb-true, both_ways}
 use Rattle.faults.specs.declared.Fault.TheVariants.{Barred}
 use Rattle.faults.specs.declared.VisitEnd.TheVariants.{Opened, Refused}
 use Rattle.lists.specs.Listed.{listed}
@@ -12,17 +12,9 @@ unfolding comes heard
 not_awaited n says None le = (le-leb says n le, refl)
 not_awaited n says (Some t) le = (refl, cond-false _ t n (and_left _ _ (le-ltb n says le)))
 
-pub none_given : (n says : ℕ) → n < says → (comes n says None ≡ false) × (heard n says None ≡ n)
-unfolding comes heard
-none_given n says lt = (lt-leb says n lt, refl)
-
 pub taken : (n says t : ℕ) → n < says → t ≡ says → (comes n says (Some t) ≡ true) × (heard n says (Some t) ≡ t)
 unfolding comes heard
 taken n says t lt e = (refl, cond-true _ t n (and_from _ _ (lt-ltb n says lt) (eq-eqb t says e)))
-
-pub other_number : (n says t : ℕ) → (t ≡ says → ⊥) → (comes n says (Some t) ≡ true) × (heard n says (Some t) ≡ n)
-unfolding comes heard
-other_number n says t ne = (refl, cond-false _ t n (and_right _ _ (ne_eqb t says ne)))
 
 -- where the visit comes to no decision, the lock has what it had
 pub undecided : (n says : ℕ) (gives : Option ℕ) → comes n says gives ≡ false → heard n says gives ≡ n
