@@ -6,7 +6,7 @@ pub mod theorems;
 use faults::{Fault, VisitEnd};
 
 // Whoever holds a list: a card or a lock, by its number.
-#[derive(Clone, Copy)]
+#[derive(Clone, Copy, Debug, PartialEq, Eq)]
 pub enum Holder {
     Card(u16),
     Lock(u16),
@@ -14,7 +14,7 @@ pub enum Holder {
 
 // The desk's day moves on; the desk bars a card; a card is at the desk and is given the newest list; an honest card is at a lock; an adversary is at a lock with a card, says that it has a list of some
 // number, gives a list that was once signed or none, and takes nothing.
-#[derive(Clone, Copy)]
+#[derive(Clone, Copy, Debug, PartialEq, Eq)]
 pub enum Event {
     Day(u32),
     Bar(u16),
@@ -32,7 +32,7 @@ pub enum Event {
 }
 
 // What comes of an event.
-#[derive(Clone, Copy)]
+#[derive(Clone, Copy, Debug, PartialEq, Eq)]
 pub enum Answer {
     // the day is the desk's now
     Today,
