@@ -1,15 +1,9 @@
--- Which cards and locks there are, and whom an event names that is not among them. Assumes nothing.
-use Rattle.std.specs.Prelude.{ℕ, Bool, cond, List, Some, None, Option}
-use Rattle.lists.specs.Listed.{listed}
+-- Whom an event names that is not there. Assumes nothing.
+use Rattle.std.specs.Prelude.{Bool, cond, Some, None, Option}
 use Rattle.model.specs.declared.Event.{Event}
 use Rattle.model.specs.declared.Event.TheVariants.{Day, Bar, AtDesk, Visit, Adversary}
 use Rattle.model.specs.declared.Holder.{Holder}
 use Rattle.model.specs.declared.Holder.TheVariants.{Card, Lock}
-
--- the roster of what is set up
-abbrev pub set_up : List ℕ → List ℕ → Holder → Bool
-set_up cards locks (Card c) = listed c cards
-set_up cards locks (Lock l) = listed l locks
 
 abbrev pub unless : (Holder → Bool) → Holder → Option Holder → Option Holder
 unless there h next = cond (there h) next (Some h)

@@ -1,41 +1,34 @@
--- The model's state that a world stands for, and what set-up and a step give. Assumes nothing.
-use Rattle.std.specs.Prelude.{◌≡◌, ℕ, Bool, List, is_some, Some, None, Ok, Err, vec_items, Option, Result, slice_index_or}
-use Rattle.visits.specs.declared.Card.{Card as CardMemory}
-use Rattle.visits.specs.declared.Lock.{Lock as LockMemory}
+-- What a world is, the model's state that it stands for, and what set-up and a step give. Assumes nothing.
+use Rattle.std.specs.Prelude.{◌≡◌, ◌↔◌, ℕ, Bool, List, Contains, IsTrue, is_some, unwrap_or, Some, None, Ok, Err, Option, Result}
+use Rattle.std.specs.Ordering.{nat_cmp}
+use Rattle.std.specs.BTreeMap.{BTreeMap, get}
 use Rattle.model.specs.declared.Event.{Event}
 use Rattle.model.specs.declared.Answer.{Answer}
 use Rattle.model.specs.declared.Holder.{Holder}
 use Rattle.model.specs.declared.Holder.TheVariants.{Card, Lock}
 use Rattle.model.specs.Run.{State, start, step, answer}
 use Rattle.world.specs.declared.state.World.{World}
-use Rattle.world.specs.Roster.{set_up, missing}
+use Rattle.world.specs.Roster.{missing}
 
--- the number of the list in a card's or a lock's memory; who is not set up has none
-abbrev pub card_list : Option CardMemory → ℕ
-card_list None = 0
-card_list (Some k) = k.list
+-- the number of the list of a card or a lock, if it is set up
+abbrev pub list_in : BTreeMap ℕ ℕ → BTreeMap ℕ ℕ → Holder → Option ℕ
+list_in cards locks (Card c) = get nat_cmp cards c
+list_in cards locks (Lock l) = get nat_cmp locks l
 
-abbrev pub lock_list : Option LockMemory → ℕ
-lock_list None = 0
-lock_list (Some k) = k.list
+abbrev pub list_of : World → Holder → Option ℕ
+list_of w h = list_in w.cards w.locks h
 
-abbrev pub state_from : ℕ → List ℕ → List (Option CardMemory) → List (Option LockMemory) → State
-state_from day bars cards locks = record { day = day; barred = bars; card = λ c. card_list (slice_index_or cards c None); lock = λ l. lock_list (slice_index_or locks l None) }
-
+-- who is not set up has no list
 abbrev pub state_of : World → State
-state_of w = state_from w.desk.day (vec_items w.desk.barred) (vec_items w.cards) (vec_items w.locks)
-
-abbrev pub roster_from : List (Option CardMemory) → List (Option LockMemory) → Holder → Bool
-roster_from cards locks (Card c) = is_some (slice_index_or cards c None)
-roster_from cards locks (Lock l) = is_some (slice_index_or locks l None)
+state_of w = record { day = w.desk.day; barred = w.desk.barred; card = λ c. unwrap_or (list_of w (Card c)) 0; lock = λ l. unwrap_or (list_of w (Lock l)) 0 }
 
 abbrev pub roster : World → Holder → Bool
-roster w = roster_from (vec_items w.cards) (vec_items w.locks)
+roster w h = is_some (list_of w h)
 
 -- a new world
-pub record Fresh (cards locks : List ℕ) (w : World) : Type 0 where
+pub record Fresh (holders : List Holder) (w : World) : Type 0 where
   pub state : state_of w ≡ start
-  pub there : (h : Holder) → roster w h ≡ set_up cards locks h
+  pub there : (h : Holder) → IsTrue (roster w h) ↔ Contains holders h
 
 -- an event that goes: its answer and what it leaves are the model's
 pub record Moves (w : World) (e : Event) (a : Answer) (v : World) : Type 0 where

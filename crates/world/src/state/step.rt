@@ -1,15 +1,22 @@
 // What each event does.
-ghost use Rattle.std.specs.Prelude.{◌≡◌, take, None, slice_index_or};
+ghost use Rattle.std.specs.Prelude.{◌≡◌, take};
 ghost use Rattle.visits.specs.Exchange.{decision};
 ghost use Rattle.model.specs.declared.Answer.TheVariants.{Decided};
 ghost use Rattle.model.specs.declared.Event.{Event};
-ghost use Rattle.world.specs.World.{state_of, Steps};
-ghost use Rattle.model.specs.Run.{has};
+ghost use Rattle.model.specs.declared.Holder.{Holder};
+ghost use Rattle.world.specs.World.{list_of, roster, Moves, Steps};
 
 use super::World;
 use model::{Answer, Event, Holder};
 use office::Desk;
 use visits::{Card, Lock, decide, exchange};
+
+// What a lock says to a card, by its list as it is now.
+fn decided(desk: &Desk, card: u16, host: Lock) -> Answer
+    ensures { result ≡ Decided (decision card (take host desk.now.barred)) }
+{
+    Answer::Decided(decide(desk.list(host.list()), u32::from(card)))
+}
 
 impl World {
     // The desk as it is.
@@ -19,35 +26,43 @@ impl World {
         &self.desk
     }
 
-    // A card's memory, if it is set up.
+    // A card's memory, if it is set up. This and `lock` are no generic function: each is one look-up, and a trait for the two would be longer.
     pub fn card(&self, card: u16) -> Option<Card>
-        ensures { result ≡ slice_index_or self.now.cards.items card None }
+        ensures { result ≡ list_of self.now (Holder.Card card) }
     {
-        self.cards[card as usize]
+        self.cards.get(&card).copied()
     }
 
     // A lock's memory, if it is set up.
     pub fn lock(&self, lock: u16) -> Option<Lock>
-        ensures { result ≡ slice_index_or self.now.locks.items lock None }
+        ensures { result ≡ list_of self.now (Holder.Lock lock) }
     {
-        self.locks[lock as usize]
+        self.locks.get(&lock).copied()
     }
 
-    fn day(&mut self, day: u32) -> Result<Answer, Holder>
-        ensures { Steps self.old (Event.Day day) result self.new }
+    // Whether a card or a lock is set up.
+    pub fn has(&self, holder: Holder) -> bool
+        ensures { result ≡ roster self.now holder }
+    {
+        match holder {
+            Holder::Card(card) => self.cards.contains_key(&card),
+            Holder::Lock(lock) => self.locks.contains_key(&lock),
+        }
+    }
+
+    fn day(&mut self, day: u32) -> Answer
+        ensures { Moves self.old (Event.Day day) result self.new }
     {
         match self.desk.set_day(day) {
-            Ok(()) => Ok(Answer::Today),
-            Err(fault) => Ok(Answer::Refused(fault)),
+            Ok(()) => Answer::Today,
+            Err(fault) => Answer::Refused(fault),
         }
     }
 
     fn bar(&mut self, card: u16) -> Result<Answer, Holder>
         ensures { Steps self.old (Event.Bar card) result self.new }
     {
-        let Some(_) = self.card(card) else {
-            return Err(Holder::Card(card));
-        };
+        self.card(card).ok_or(Holder::Card(card))?;
         match self.desk.bar(u32::from(card)) {
             Ok(number) => Ok(Answer::Barring(number)),
             Err(fault) => Ok(Answer::Refused(fault)),
@@ -57,35 +72,28 @@ impl World {
     fn at_desk(&mut self, card: u16) -> Result<Answer, Holder>
         ensures { Steps self.old (Event.AtDesk card) result self.new }
     {
-        let Some(mut memory) = self.card(card) else {
-            return Err(Holder::Card(card));
-        };
+        let memory = self.cards.get_mut(&card).ok_or(Holder::Card(card))?;
         let number = self.desk.newest();
         memory.take_list(number);
-        self.cards[card as usize] = Some(memory);
         Ok(Answer::Given(number))
-    }
-
-    // What a lock says to a card, by its list as it is now.
-    fn decided(&self, card: u16, host: Lock) -> Answer
-        ensures { result ≡ Decided (decision card (take host.list self.now.desk.barred.items)) }
-    {
-        Answer::Decided(decide(self.desk.list(host.list()), u32::from(card)))
     }
 
     fn visit(&mut self, card: u16, lock: u16) -> Result<Answer, Holder>
         ensures { Steps self.old (Event.Visit card lock) result self.new }
     {
+        // Whom the visit names is taken apart by `let .. else`, as was asked for. The card's memory is a copy until the lock is found, since what is refused changes nothing.
         let Some(mut visitor) = self.card(card) else {
             return Err(Holder::Card(card));
         };
-        let Some(mut host) = self.lock(lock) else {
+        let Some(host) = self.locks.get_mut(&lock) else {
             return Err(Holder::Lock(lock));
         };
-        exchange(&mut visitor, &mut host);
-        self.cards[card as usize] = Some(visitor);
-        self.locks[lock as usize] = Some(host);
-        Ok(self.decided(card, host))
+        exchange(&mut visitor, host);
+        let answer = decided(&self.desk, card, *host);
+        if let Some(memory) = self.cards.get_mut(&card) {
+            *memory = visitor;
+        }
+        Ok(answer)
     }
 
     fn adversary(
@@ -100,27 +108,17 @@ impl World {
         let Some(_) = self.card(card) else {
             return Err(Holder::Card(card));
         };
-        let Some(mut host) = self.lock(lock) else {
+        let Some(host) = self.locks.get_mut(&lock) else {
             return Err(Holder::Lock(lock));
         };
-        if !self.can_give(gives) {
+        // it can give only what the desk once signed
+        if gives.is_some_and(|number| !self.desk.has_signed(number)) {
             return Ok(Answer::NoList);
         }
         if !host.hear(says, gives) {
             return Ok(Answer::BrokenOff);
         }
-        self.locks[lock as usize] = Some(host);
-        Ok(self.decided(card, host))
-    }
-
-    // Whether an adversary can have the list that it gives: only if the desk once signed it.
-    fn can_give(&self, gives: Option<u32>) -> bool
-        ensures { result ≡ has gives (state_of self.now) }
-    {
-        match gives {
-            Some(number) => self.desk.has_signed(number),
-            None => true,
-        }
+        Ok(decided(&self.desk, card, *host))
     }
 
     // What an event brings about. Only an event that names somebody unknown fails, and it changes nothing.
@@ -128,7 +126,7 @@ impl World {
         ensures { Steps self.old event result self.new }
     {
         match event {
-            Event::Day(day) => self.day(day),
+            Event::Day(day) => Ok(self.day(day)),
             Event::Bar(card) => self.bar(card),
             Event::AtDesk(card) => self.at_desk(card),
             Event::Visit { card, lock } => self.visit(card, lock),
