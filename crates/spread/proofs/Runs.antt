@@ -90,15 +90,3 @@ ends first events i w answers le ge s =
         promised = λ k e d lt. subst (Promise (before past k events) (get_or events k e)) (sym (s.says past is k e d (omega (arith, lt)))) (main (before past k events) (get_or events k e));
       };
     }
-
--- one event more that names nobody unknown, and one that does
-pub known_more : (f : Holder → Bool) (events : List Event) (i : ℕ) (d : Event) → i < length events → AllKnown f events i → missing f (get_or events i d) ≡ None → AllKnown f events (i + 1)
-known_more f events i d lt known is k e below =
-    elim (cases_lt k i) [
-      | inl h ↦ known k e h
-      | inr h ↦ let same : k ≡ i = omega arith in rw (same, get_or_default events i e d lt) is
-    ]
-
-pub found_unknown : (f : Holder → Bool) (events : List Event) (i : ℕ) (d : Event) (who : Holder) → i < length events → AllKnown f events i → missing f (get_or events i d) ≡ Some who →
-    FirstUnknown f events (Some (i, who))
-found_unknown f events i d who lt known is = (lt, λ e. rw (get_or_default events i e d lt) is, known)

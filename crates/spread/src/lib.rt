@@ -2,40 +2,28 @@
 #![tactic(auto)]
 
 ghost use Rattle.std.specs.Prelude.{◌≡◌, None};
-ghost use Rattle.model.specs.declared.Holder.{Holder};
 ghost use Rattle.world.specs.Roster.{missing, unless};
 ghost use Rattle.world.specs.World.{roster};
 ghost use Rattle.spread.specs.Runs.{FirstUnknown, Ran};
 
 use model::{Answer, Event, Holder};
+use thiserror::Error;
 use world::World;
 
 // Why nothing was played: there is no room for so many answers, or the event at a place names somebody that is not set up.
-#[derive(Clone, Copy)]
+#[derive(Clone, Copy, Debug, PartialEq, Eq, Error)]
 pub enum RunError {
+    #[error("no room for so many answers")]
     NoRoom,
+    #[error("event {at} names somebody who is not set up")]
     Unknown { at: usize, who: Holder },
 }
 
-fn unknown_card(world: &World, card: u16) -> Option<Holder>
-    ensures { result ≡ unless (roster world.now) (Holder.Card card) None }
+// The card or lock, unless it is set up.
+fn unknown(world: &World, who: Holder) -> Option<Holder>
+    ensures { result ≡ unless (roster world.now) who None }
 {
-    match world.card(card) {
-        Some(_) => None,
-        None => Some(Holder::Card(card)),
-    }
-}
-
-fn unknown_pair(world: &World, card: u16, lock: u16) -> Option<Holder>
-    ensures { result ≡ unless (roster world.now) (Holder.Card card) (unless (roster world.now) (Holder.Lock lock) None) }
-{
-    let Some(_) = world.card(card) else {
-        return Some(Holder::Card(card));
-    };
-    match world.lock(lock) {
-        Some(_) => None,
-        None => Some(Holder::Lock(lock)),
-    }
+    (!world.has(who)).then_some(who)
 }
 
 // The first of an event's card and lock that is not set up.
@@ -44,15 +32,10 @@ fn unknown_in(world: &World, event: Event) -> Option<Holder>
 {
     match event {
         Event::Day(_) => None,
-        Event::Bar(card) => unknown_card(world, card),
-        Event::AtDesk(card) => unknown_card(world, card),
-        Event::Visit { card, lock } => unknown_pair(world, card, lock),
-        Event::Adversary {
-            card,
-            lock,
-            says: _,
-            gives: _,
-        } => unknown_pair(world, card, lock),
+        Event::Bar(card) | Event::AtDesk(card) => unknown(world, Holder::Card(card)),
+        Event::Visit { card, lock } | Event::Adversary { card, lock, .. } => {
+            unknown(world, Holder::Card(card)).or_else(|| unknown(world, Holder::Lock(lock)))
+        }
     }
 }
 
@@ -60,15 +43,11 @@ fn unknown_in(world: &World, event: Event) -> Option<Holder>
 pub fn first_unknown(world: &World, events: &[Event]) -> Option<(usize, Holder)>
     ensures { FirstUnknown (roster world.now) events.now result }
 {
-    for (at, event) in events.iter().enumerate() {
-        if let Some(who) = unknown_in(world, *event) {
-            return Some((at, who));
-        }
-    }
-    None
+    events.iter().enumerate().find_map(|(at, event)| unknown_in(world, *event).map(|who| (at, who)))
 }
 
-// Plays events in order, and leaves in `answers`, which has to have room, what came of each. Where an event names somebody that is not set up, nothing is played.
+// Plays events in order, and leaves in `answers`, which has to have room, what came of each. (The memory is lent: if this allocated, an error for want of it could stand for any answer.) Where an event names somebody that is not set up, nothing is played.
+#[tactic(auto, using(crate::proofs::Runs::begins))]
 pub fn run(world: &mut World, events: &[Event], answers: &mut Vec<Answer>) -> Result<(), RunError>
     ensures { Ran world.old events.now answers.old result world.new answers.new }
 {
@@ -80,10 +59,10 @@ pub fn run(world: &mut World, events: &[Event], answers: &mut Vec<Answer>) -> Re
     }
     answers.clear();
     for event in events {
-        match world.step(*event) {
-            Ok(answer) => answers.push_reserved(answer),
-            Err(_) => unreachable(),
-        }
+        let Ok(answer) = world.step(*event) else {
+            unreachable();
+        };
+        answers.push_reserved(answer);
     }
     Ok(())
 }

@@ -1,14 +1,10 @@
 use Rattle.std.proofs.Common.{arith}
-use Rattle.spread.proofs.Runs.{begins, goes_on, never_stays, ends}
+use Rattle.spread.proofs.Runs.{goes_on, never_stays, ends}
 use Rattle.spread.proofs.run.Goals as goal
-
-pub loop-event-init : goal.loop-event-init
-loop-event-init c =
-    (begins c.args.world.now c.args.events.now _ c.in_default.ensures c.clear.ensures.items, omega (arith, c.clear.ensures.capacity))
 
 pub unreachable-requires : goal.unreachable-requires
 unreachable-requires c =
-    never_stays c.args.world.now c.args.events.now c.loop-event.event-index c.loop-event.world _ c.loop-event.invariant.0 c.loop-event-test.true _ c.in-Err.field-0 c.step.new.self c.in-Err.ensures
+    never_stays c.args.world.now c.args.events.now c.loop-event.event-index c.loop-event.world _ c.loop-event.invariant.0 c.loop-event-test.true _ c.in_default-step.field-0 c.step.new.self c.in_default-step.ensures
 
 pub loop-event-preserved : goal.loop-event-preserved
 loop-event-preserved c =
