@@ -1,12 +1,12 @@
 -- Numbers in decimal digits. Assumes nothing.
-use Rattle.std.proofs.Common.{◌≡◌, ℕ, ◌+◌, ◌-◌, ◌*◌, ◌^◌, ◌<◌, ◌≤◌, true, false, cond, not, ◌&&◌, eqb, ltb, List, [], ◌∷◌, length, get_or, drop, Some, None, decimal, sym, ap, ◌∙◌, inl, inr, arith, rules}
-use Rattle.std.specs.Int.{IsInRange}
-use Rattle.std.specs.Char.{is_ascii_digit}
-use Rattle.std.specs.Str.{all_ascii_digits}
-use Rattle.std.proofs.lemmas.Str.Parse.{IsNumeralModel, numerals_by_fold, digit_at, not_in_digits}
-use Rattle.std.proofs.lemmas.List.{at_drop_more, at_drop_all}
-use Rattle.std.proofs.lemmas.Bool.{and_parts, and_cases, and_left, and_right, and_from, not-true, not_from_false, cond-true, cond-false, cases_Bool, cases_order, le-ltb, lt-ltb, ltb-true, ltb-false, eqb-false, ne_eqb}
-use Rattle.std.proofs.lemmas.Fmt.{decimal-digits_value, decimal_digit, decimal_nonempty, first_decimal, digits_decimal, digits_value-decimal}
+use Rattle.std.proofs.Common.{◌≡◌, ℕ, ◌^◌, ◌<◌, true, false, cond, not, ◌&&◌, eqb, ltb, List, length, get_or, Some, None, Ok, Err, Result, decimal, sym, ap, ◌∙◌, inl, inr, arith, rules}
+use Rattle.std.specs.Str.{all_ascii_digits, IsUtf8}
+use Rattle.std.specs.Str.Parse.{ParsesUnsigned}
+use Rattle.std.specs.Result.{result_ok}
+use Rattle.std.proofs.lemmas.Str.Parse.{IsNumeralModel, numerals_by_fold, parse_digits, not_in_digits}
+use Rattle.std.proofs.lemmas.Str.{IsUtf8-from_ascii}
+use Rattle.std.proofs.lemmas.Bool.{and_parts, and_cases, and_left, and_right, and_from, not-true, not_from_false, cond-true, cond-false, cases_Bool, cases_order, cases_lt, le-ltb, lt-ltb, ltb-true, ltb-false, eqb-false, ne_eqb}
+use Rattle.std.proofs.lemmas.Fmt.{IsAscii-from_digits, decimal-digits_value, decimal_digit, decimal_nonempty, first_decimal, digits_decimal, digits_value-decimal}
 use Rattle.words.specs.Words.{is_numeral, read_on, number_of}
 
 pub own : IsNumeralModel (λ ds. all_ascii_digits ds ≡ true) (read_on 0)
@@ -16,41 +16,26 @@ own = numerals_by_fold _ (search rules) read_on (search rules)
 pub numeral_digits : (w : List ℕ) → is_numeral w ≡ true → all_ascii_digits w ≡ true
 numeral_digits w e = (and_parts (not (ltb 1 (length w) && eqb (get_or w 0 0) 48)) (all_ascii_digits w) (and_parts (ltb 0 (length w)) _ e).1).1
 
-pub numeral_digit : (w : List ℕ) (i : ℕ) → is_numeral w ≡ true → i < length w → IsInRange 48 57 (get_or w i 0)
-numeral_digit w i e h = digit_at w i (own.to w (numeral_digits w e)) h
+pub numeral_text : (w : List ℕ) → is_numeral w ≡ true → IsUtf8 w
+numeral_text w e = IsUtf8-from_ascii w (IsAscii-from_digits w (own.to w (numeral_digits w e)))
 
--- a number only grows as it is read
-pub grows : (n : ℕ) (ds : List ℕ) → n ≤ read_on n ds
-unfolding read_on
-grows n [] = omega arith
-grows n (d ∷ ds) = omega (arith, grows (10 * n + (d - 48)) ds)
-
-pub digits_more : (w : List ℕ) (i : ℕ) → i < length w → true ≡ is_ascii_digit (get_or w i 0) → all_ascii_digits (drop (i + 1) w) ≡ all_ascii_digits (drop i w)
-digits_more w i h e = sym (at_drop_more all_ascii_digits w i 0 h ∙ ap (λ b. b && all_ascii_digits (drop (i + 1) w)) (sym e))
-
-pub digits_stop : (w : List ℕ) (i : ℕ) → i < length w → false ≡ is_ascii_digit (get_or w i 0) → false ≡ all_ascii_digits (drop i w)
-digits_stop w i h e = sym (at_drop_more all_ascii_digits w i 0 h ∙ ap (λ b. b && all_ascii_digits (drop (i + 1) w)) (sym e))
-
-pub read_more : (n : ℕ) (w : List ℕ) (i d : ℕ) → i < length w → d ≡ get_or w i 0 - 48 → read_on (10 * n + d) (drop (i + 1) w) ≡ read_on n (drop i w)
-unfolding read_on
-read_more n w i d h e = ap (λ x. read_on (10 * n + x) (drop (i + 1) w)) e ∙ sym (at_drop_more (read_on n) w i 0 h)
-
-pub not_numeral : (w : List ℕ) → false ≡ is_numeral w → None ≡ number_of w
+pub not_numeral : (w : List ℕ) → is_numeral w ≡ false → None ≡ number_of w
 unfolding number_of
-not_numeral w e = ap (λ b. cond (b && ltb (read_on 0 w) (2 ^ 32)) (Some (read_on 0 w)) None) e
+not_numeral w e = sym (ap (λ b. cond (b && ltb (read_on 0 w) (2 ^ 32)) (Some (read_on 0 w)) None) e)
 
-pub too_large : (w : List ℕ) (n : ℕ) (ds : List ℕ) → read_on n ds ≡ read_on 0 w → 2 ^ 32 ≤ n → None ≡ number_of w
+-- what `parse` gives at a numeral
+pub numeral_parsed : {E : Type 0} → (w : List ℕ) (r : Result ℕ E) → is_numeral w ≡ true → ParsesUnsigned 32 10 w r → result_ok r ≡ number_of w
 unfolding number_of
-too_large w n ds e h =
-    sym (cond-false _ _ _ (and_right (is_numeral w) _ (le-ltb (read_on 0 w) (2 ^ 32) (omega (arith, grows n ds)))))
-
-pub is_number : (w : List ℕ) (n : ℕ) → true ≡ is_numeral w → n ≡ read_on 0 w → n < 2 ^ 32 → Some n ≡ number_of w
-unfolding number_of
-is_number w n t e h = ap (λ m. Some m) e ∙ sym (cond-true _ _ _ (and_from _ _ (sym t) (lt-ltb (read_on 0 w) (2 ^ 32) (omega arith))))
-
-pub read_all : (n : ℕ) (w : List ℕ) (i : ℕ) → length w ≤ i → read_on n (drop i w) ≡ n
-unfolding read_on
-read_all n w i h = at_drop_all (read_on n) w i h
+numeral_parsed {E} w (Ok n) e h =
+    let p = parse_digits own {E = E} 32 w (Ok n) h (numeral_digits w e) in
+    ap (λ m. Some m) p.1 ∙ sym (cond-true _ _ _ (and_from _ _ e (lt-ltb (read_on 0 w) (2 ^ 32) p.0.1)))
+numeral_parsed {E} w (Err d) e h =
+    let p = parse_digits own {E = E} 32 w (Err d) h (numeral_digits w e) in
+    let long = ltb-true 0 (length w) (and_parts (ltb 0 (length w)) _ e).0 in
+    elim (cases_lt (read_on 0 w) (2 ^ 32)) [
+      | inl fits ↦ absurd (p (long, fits))
+      | inr large ↦ sym (cond-false _ _ _ (and_right (is_numeral w) _ (le-ltb (read_on 0 w) (2 ^ 32) large)))
+    ]
 
 -- ---- a word is the number n exactly if n is written so
 
@@ -89,9 +74,11 @@ no_leading n h =
     ]
 
 pub number_written : (n : ℕ) → n < 2 ^ 32 → number_of (decimal n) ≡ Some n
+unfolding number_of
 number_written n h =
     let numeral : is_numeral (decimal n) ≡ true = and_from _ _ (lt-ltb 0 _ (decimal_nonempty n (omega arith))) (and_from _ _ (not_from_false _ (no_leading n h)) (digits_decimal own n (omega arith))) in
-    sym (is_number (decimal n) n (sym numeral) (sym (digits_value-decimal own n (omega arith))) h)
+    let value = digits_value-decimal own n (omega arith) in
+    cond-true _ _ _ (and_from _ _ numeral (lt-ltb (read_on 0 (decimal n)) (2 ^ 32) (omega arith))) ∙ ap (λ m. Some m) value
 
 pub no_space : (n : ℕ) → n < 2 ^ 32 → (k : ℕ) → k < length (decimal n) → get_or (decimal n) k 0 ≡ 32 → ⊥
 no_space n h = not_in_digits own (decimal n) 32 (digits_decimal own n (omega arith)) (λ d. omega arith)

@@ -1,7 +1,7 @@
 -- The words of a line, and the numbers that they write. Assumes nothing.
 use Rattle.std.specs.Prelude.{ℕ, ◌+◌, ◌-◌, ◌*◌, ◌^◌, Bool, cond, not, ◌&&◌, List, [], ◌∷◌, length, Some, None, Ok, Err, Option, Result, ◌==◌, nat_le, nat_lt, slice_index}
 use Rattle.std.specs.Str.{all_ascii_digits, bytes_eq}
-use Rattle.std.specs.Borrow.{Bor}
+use Rattle.words.specs.declared.words.Words.{Words}
 use Rattle.words.specs.declared.wrong.Wrong.{Wrong}
 use Rattle.words.specs.declared.wrong.Wrong.TheVariants.{MissingWord, NotAnId, NotANumber}
 use Rattle.words.specs.Lines.{pieces}
@@ -27,9 +27,9 @@ id_of w = in_range (number_of w)
 abbrev pub words_of : List ℕ → List (List ℕ)
 words_of bs = pieces 32 bs
 
-abbrev pub left : Option (Bor (List ℕ)) → List (List ℕ)
-left None = []
-left (Some x) = words_of x.now
+-- the words that are left of a line
+abbrev pub left : Words → List (List ℕ)
+left w = elim w.rest [ None ↦ [] | Some x ↦ words_of x.now ]
 
 -- what was read, and the words that are left then
 abbrev pub Reading : Type 0 → Type 0

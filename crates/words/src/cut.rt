@@ -3,41 +3,41 @@ ghost use Rattle.std.specs.Prelude.{◌≡◌, ◌<◌, [], ◌∷◌, length, M
 ghost use Rattle.words.specs.Lines.{pieces, is_blank, without_front, without_back, bare_of};
 
 // The text up to the first `at`, and the text after it, if there is one.
+#[tactic(auto, using(crate::proofs::Cuts::pieces_none))]
 pub fn cut(text: &[u8], at: u8) -> (&[u8], Option<&[u8]>)
     ensures { MatchOption result.1 ((pieces at text.now ≡ result.0.now ∷ []) × (result.0.now ≡ text.now)) (λ rest. (pieces at text.now ≡ result.0.now ∷ pieces at rest.now) × (length rest.now < length text.now)) }
 {
-    for (i, byte) in text.iter().enumerate() {
-        if *byte == at {
-            return (&text[0..i], Some(&text[i + 1..]));
-        }
+    match text.iter().position(|byte| *byte == at) {
+        None => (text, None),
+        Some(i) => (&text[..i], Some(&text[i + 1..])),
     }
-    (text, None)
 }
 
-fn is_blank(byte: u8) -> bool
-    ensures { result ≡ is_blank byte }
+// `trim_ascii` would take more for blanks: newlines and form feeds.
+fn is_blank(byte: &u8) -> bool
+    ensures { result ≡ is_blank byte.now }
 {
-    byte == b' ' || byte == b'\t' || byte == b'\r'
+    matches!(byte, b' ' | b'\t' | b'\r')
 }
 
+#[tactic(auto, using(crate::proofs::Cuts::front_blank))]
 fn trim_start(text: &[u8]) -> &[u8]
     ensures { result.now ≡ without_front text.now }
 {
-    let mut start = 0;
-    while start < text.len() && is_blank(text[start]) {
-        start += 1;
+    match text.iter().position(|byte| !is_blank(byte)) {
+        None => &[],
+        Some(first) => &text[first..],
     }
-    &text[start..]
 }
 
+#[tactic(auto, using(crate::proofs::Cuts::back_blank))]
 fn trim_end(text: &[u8]) -> &[u8]
     ensures { result.now ≡ without_back text.now }
 {
-    let mut end = text.len();
-    while 0 < end && is_blank(text[end - 1]) {
-        end -= 1;
+    match text.iter().rposition(|byte| !is_blank(byte)) {
+        None => &[],
+        Some(last) => &text[..=last],
     }
-    &text[0..end]
 }
 
 // What a line says: neither its comment nor the blanks around the rest.

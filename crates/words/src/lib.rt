@@ -5,5 +5,5 @@ pub mod cut;
 pub mod words;
 pub mod wrong;
 
-pub use words::{Words, same};
+pub use words::Words;
 pub use wrong::Wrong;

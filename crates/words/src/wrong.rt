@@ -2,9 +2,10 @@
 ghost use Rattle.std.specs.Prelude.{Some};
 ghost use Rattle.words.specs.Shown.{phrase};
 
+use std::error::Error;
 use std::fmt;
 
-#[derive(Clone, Copy)]
+#[derive(Clone, Copy, Debug, PartialEq, Eq)]
 pub enum Wrong {
     UnknownCommand,
     MissingWord,
@@ -20,22 +21,24 @@ pub enum Wrong {
     Empty,
 }
 
+// By hand, since contracts read what is printed, the `output`.
 impl fmt::Display for Wrong {
     ghost output = { λ w. Some (phrase w) };
 
     fn fmt<W: fmt::Write>(&self, f: &mut fmt::Formatter<W>) -> fmt::Result {
-        let text = match *self {
-            Wrong::UnknownCommand => "unknown command",
-            Wrong::MissingWord => "a word is missing",
-            Wrong::UnexpectedWord => "a word too many",
-            Wrong::NotAnId => "not a number from 1 to 65535",
-            Wrong::NotANumber => "not a number from 0 to 4294967295",
-            Wrong::NoSuchCard(card) => return write!(f, "no card {card} is set up above"),
-            Wrong::NoSuchLock(lock) => return write!(f, "no lock {lock} is set up above"),
-            Wrong::SetUpAlready => "set up already",
-            Wrong::NoNewline => "no newline at the end",
-            Wrong::Empty => "no command",
-        };
-        f.write_str(text)
+        match *self {
+            Wrong::UnknownCommand => write!(f, "unknown command"),
+            Wrong::MissingWord => write!(f, "a word is missing"),
+            Wrong::UnexpectedWord => write!(f, "a word too many"),
+            Wrong::NotAnId => write!(f, "not a number from 1 to 65535"),
+            Wrong::NotANumber => write!(f, "not a number from 0 to 4294967295"),
+            Wrong::NoSuchCard(card) => write!(f, "no card {card} is set up above"),
+            Wrong::NoSuchLock(lock) => write!(f, "no lock {lock} is set up above"),
+            Wrong::SetUpAlready => write!(f, "set up already"),
+            Wrong::NoNewline => write!(f, "no newline at the end"),
+            Wrong::Empty => write!(f, "no command"),
+        }
     }
 }
+
+impl Error for Wrong {}

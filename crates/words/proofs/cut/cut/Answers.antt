@@ -1,9 +1,10 @@
-use Rattle.std.proofs.Common.{refl, arith}
-use Rattle.words.proofs.Cuts.{cut_found, pieces_none}
+use Rattle.std.proofs.Common.{◌≡◌, ◌≢◌, ℕ, ◌<◌, length, get_or, rules}
+use Rattle.words.proofs.Cuts.{cut_found}
 use Rattle.words.proofs.cut.cut.Goals as goal
 
-pub returns-then-byte-at : goal.returns-then-byte-at
-returns-then-byte-at c = cut_found _ _ _ (omega arith) c.if-byte-at.true c.loop-i.invariant
-
-pub returns : goal.returns
-returns c = (pieces_none _ _ (λ k h. c.loop-i.invariant k (omega arith)), refl)
+pub returns-in-Some : goal.returns-in-Some
+returns-in-Some c =
+    let within : c.in-Some.i < length c.args.text.now = search rules in
+    let found : get_or c.args.text.now c.in-Some.i 0 ≡ c.args.at = search rules in
+    let none : (k : ℕ) → k < c.in-Some.i → get_or c.args.text.now k 0 ≢ c.args.at = search rules in
+    cut_found _ _ _ within found none
