@@ -7,11 +7,9 @@ use Rattle.commands.specs.declared.command.Command.{Command}
 use Rattle.commands.specs.declared.command.Command.TheVariants.{Lock, Card, Day, Bar, Desk, Visit, Thief}
 use Rattle.words.specs.declared.wrong.Wrong.{Wrong}
 use Rattle.words.specs.declared.wrong.Wrong.TheVariants.{NotAnId, NotANumber}
-use Rattle.commands.specs.declared.line.Name.{Name}
-use Rattle.commands.specs.declared.line.Name.TheVariants.{Lock as LockName, Card as CardName, Day as DayName, Bar as BarName, Desk as DeskName, Visit as VisitName, Thief as ThiefName}
 use Rattle.words.specs.Lines.{pieces, on_first}
-use Rattle.words.specs.Words.{number_of, in_range, id_of, words_of, Reading, with, then, or_wrong, id_from, number_from, option_from}
-use Rattle.commands.specs.Commands.{written, Id, Perhaps, Lawful, name_of, command_from, ended, parsed, Read}
+use Rattle.words.specs.Words.{number_of, in_range, id_of, words_of, Reading, then, or_wrong, id_from, number_from, option_from}
+use Rattle.commands.specs.Commands.{written, Id, Perhaps, Lawful, making, visit_from, thief_from, command_from, ended, parsed, Read}
 use Rattle.words.proofs.Cuts.{pieces_none, pieces_some}
 use Rattle.words.proofs.Numbers.{number_read, number_written, no_space}
 
@@ -187,32 +185,13 @@ option_ok key (w ∷ ws) o rest e =
           (subst Perhaps r.0 tt, (λ i. option_words key (r.0 i) ++ r.1 i))
     ]
 
-name_word : Name → List ℕ
-name_word LockName = codes "lock"
-name_word CardName = codes "card"
-name_word DayName = codes "day"
-name_word BarName = codes "bar"
-name_word DeskName = codes "desk"
-name_word VisitName = codes "visit"
-name_word ThiefName = codes "thief"
-
-one_name : (w key : List ℕ) (n : Name) (r : Result Name Wrong) → name_word n ≡ key → ((m : Name) → r ≡ Ok m → w ≡ name_word m) → (m : Name) → cond (bytes_eq w key) (Ok n) r ≡ Ok m → w ≡ name_word m
-one_name w key n r is other m e =
+-- a command is read by its own name
+by_name : {P : Type 0} (w key : List ℕ) (named other : Reading Command) (p : Command × List (List ℕ)) → cond (bytes_eq w key) named other ≡ Ok p → (w ≡ key → named ≡ Ok p → P) → (other ≡ Ok p → P) → P
+by_name w key named other p e here there =
     elim (cases_Bool (bytes_eq w key)) [
-      | inl t ↦ let same : n ≡ m = cc (cond-true _ (Ok n) r t) in (bytes_eq-Decides w key).0 t ∙ sym is ∙ ap name_word same
-      | inr f ↦ other m (sym (cond-false _ (Ok n) r f) ∙ e)
+      | inl t ↦ here ((bytes_eq-Decides w key).0 t) (sym (cond-true _ named other t) ∙ e)
+      | inr f ↦ there (sym (cond-false _ named other f) ∙ e)
     ]
-
-name_ok : (w : List ℕ) (m : Name) → name_of w ≡ Ok m → w ≡ name_word m
-unfolding name_word
-name_ok w =
-    one_name w (codes "lock") LockName _ refl
-    (one_name w (codes "card") CardName _ refl
-    (one_name w (codes "day") DayName _ refl
-    (one_name w (codes "bar") BarName _ refl
-    (one_name w (codes "desk") DeskName _ refl
-    (one_name w (codes "visit") VisitName _ refl
-    (one_name w (codes "thief") ThiefName _ refl (λ m e. let z : ◌≡◌ {A = ℕ} 0 1 = cc in never z)))))))
 
 made_so : (ws : List (List ℕ)) (h : Command) (front : List (List ℕ)) (k : Command) (rest : List (List ℕ)) → Lawful h → ws ≡ spelt h ++ front → ◌≡◌ {A = Reading Command} (Ok (h, front)) (Ok (k, rest)) → Lawful k × (ws ≡ spelt k ++ rest)
 made_so ws h front k rest law is e =
@@ -223,35 +202,32 @@ unfolding spelt
 thief_words c l s g ws xs ys zs rest p q r t =
     ap (λ x. codes "thief" ∷ x) (p ∙ ap (λ x. decimal c ∷ x) (q ∙ ap (λ x. decimal l ∷ x) (r ∙ ap (λ x. option_words (codes "says") s ++ x) t ∙ sym (append_assoc (option_words (codes "says") s) (option_words (codes "gives") g) rest))))
 
-command_ok : (n : Name) (ws : List (List ℕ)) (k : Command) (rest : List (List ℕ)) → command_from n ws ≡ Ok (k, rest) → Lawful k × (name_word n ∷ ws ≡ spelt k ++ rest)
-unfolding name_word spelt option_words
-command_ok LockName ws k rest e =
-    let p = then_ok (id_from ws) (λ l rest. Ok (Lock l, rest)) (k, rest) e in
+-- a name and a card's or a lock's number
+id_words : (name : List ℕ) (make : ℕ → Command) → ((n : ℕ) → Id n → Lawful (make n)) → ((n : ℕ) → name ∷ decimal n ∷ [] ≡ spelt (make n)) → (ws : List (List ℕ)) (k : Command) (rest : List (List ℕ)) → making make (id_from ws) ≡ Ok (k, rest) → Lawful k × (name ∷ ws ≡ spelt k ++ rest)
+id_words name make law is ws k rest e =
+    let p = then_ok (id_from ws) (λ n rest. Ok (make n, rest)) (k, rest) e in
     let q = id_ok ws p.0.0 p.0.1 p.1 in
-    made_so _ (Lock p.0.0) p.0.1 k rest q.0 (ap (λ x. codes "lock" ∷ x) q.1) p.2
-command_ok CardName ws k rest e =
-    let p = then_ok (id_from ws) (λ c rest. Ok (Card c, rest)) (k, rest) e in
-    let q = id_ok ws p.0.0 p.0.1 p.1 in
-    made_so _ (Card p.0.0) p.0.1 k rest q.0 (ap (λ x. codes "card" ∷ x) q.1) p.2
-command_ok DayName ws k rest e =
+    made_so _ (make p.0.0) p.0.1 k rest (law p.0.0 q.0) (ap (λ x. name ∷ x) q.1 ∙ ap (λ x. x ++ p.0.1) (is p.0.0)) p.2
+
+day_words : (ws : List (List ℕ)) (k : Command) (rest : List (List ℕ)) → making (λ d. Day d) (number_from ws) ≡ Ok (k, rest) → Lawful k × (codes "day" ∷ ws ≡ spelt k ++ rest)
+unfolding spelt
+day_words ws k rest e =
     let p = then_ok (number_from ws) (λ d rest. Ok (Day d, rest)) (k, rest) e in
     let q = number_ok ws p.0.0 p.0.1 p.1 in
     made_so _ (Day p.0.0) p.0.1 k rest q.0 (ap (λ x. codes "day" ∷ x) q.1) p.2
-command_ok BarName ws k rest e =
-    let p = then_ok (id_from ws) (λ c rest. Ok (Bar c, rest)) (k, rest) e in
-    let q = id_ok ws p.0.0 p.0.1 p.1 in
-    made_so _ (Bar p.0.0) p.0.1 k rest q.0 (ap (λ x. codes "bar" ∷ x) q.1) p.2
-command_ok DeskName ws k rest e =
-    let p = then_ok (id_from ws) (λ c rest. Ok (Desk c, rest)) (k, rest) e in
-    let q = id_ok ws p.0.0 p.0.1 p.1 in
-    made_so _ (Desk p.0.0) p.0.1 k rest q.0 (ap (λ x. codes "desk" ∷ x) q.1) p.2
-command_ok VisitName ws k rest e =
+
+visit_words : (ws : List (List ℕ)) (k : Command) (rest : List (List ℕ)) → visit_from ws ≡ Ok (k, rest) → Lawful k × (codes "visit" ∷ ws ≡ spelt k ++ rest)
+unfolding spelt
+visit_words ws k rest e =
     let p = then_ok (id_from ws) (λ c xs. then (id_from xs) (λ l rest. Ok (Visit c l, rest))) (k, rest) e in
     let q = id_ok ws p.0.0 p.0.1 p.1 in
     let s = then_ok (id_from p.0.1) (λ l rest. Ok (Visit p.0.0 l, rest)) (k, rest) p.2 in
     let t = id_ok p.0.1 s.0.0 s.0.1 s.1 in
     made_so _ (Visit p.0.0 s.0.0) s.0.1 k rest (q.0, t.0) (ap (λ x. codes "visit" ∷ x) (q.1 ∙ ap (λ x. decimal p.0.0 ∷ x) t.1)) s.2
-command_ok ThiefName ws k rest e =
+
+thief_read : (ws : List (List ℕ)) (k : Command) (rest : List (List ℕ)) → thief_from ws ≡ Ok (k, rest) → Lawful k × (codes "thief" ∷ ws ≡ spelt k ++ rest)
+unfolding spelt option_words
+thief_read ws k rest e =
     let p = then_ok (id_from ws) (λ c xs. then (id_from xs) (λ l ys. then (option_from (codes "says") ys) (λ s zs. then (option_from (codes "gives") zs) (λ g rest. Ok (Thief c l s g, rest))))) (k, rest) e in
     let c = p.0.0 in
     let q = id_ok ws c p.0.1 p.1 in
@@ -266,23 +242,30 @@ command_ok ThiefName ws k rest e =
     let y = option_ok (codes "gives") u.0.1 gives x.0.1 x.1 in
     made_so _ (Thief c l says gives) x.0.1 k rest (q.0, t.0, v.0, y.0) (thief_words c l says gives ws p.0.1 s.0.1 u.0.1 x.0.1 q.1 t.1 v.1 y.1) x.2
 
+command_ok : (w : List ℕ) (ws : List (List ℕ)) (k : Command) (rest : List (List ℕ)) → command_from w ws ≡ Ok (k, rest) → Lawful k × (w ∷ ws ≡ spelt k ++ rest)
+unfolding spelt
+command_ok w ws k rest e =
+    let named = λ (name : List ℕ) (is : w ≡ name) (p : Lawful k × (name ∷ ws ≡ spelt k ++ rest)). let q : Lawful k × (w ∷ ws ≡ spelt k ++ rest) = (p.0, ap (λ x. x ∷ ws) is ∙ p.1) in q in
+    by_name w (codes "lock") _ _ (k, rest) e (λ is f. named _ is (id_words (codes "lock") (λ n. Lock n) (λ n h. h) (λ n. refl) ws k rest f))
+    (λ e. by_name w (codes "card") _ _ (k, rest) e (λ is f. named _ is (id_words (codes "card") (λ n. Card n) (λ n h. h) (λ n. refl) ws k rest f))
+    (λ e. by_name w (codes "day") _ _ (k, rest) e (λ is f. named _ is (day_words ws k rest f))
+    (λ e. by_name w (codes "bar") _ _ (k, rest) e (λ is f. named _ is (id_words (codes "bar") (λ n. Bar n) (λ n h. h) (λ n. refl) ws k rest f))
+    (λ e. by_name w (codes "desk") _ _ (k, rest) e (λ is f. named _ is (id_words (codes "desk") (λ n. Desk n) (λ n h. h) (λ n. refl) ws k rest f))
+    (λ e. by_name w (codes "visit") _ _ (k, rest) e (λ is f. named _ is (visit_words ws k rest f))
+    (λ e. by_name w (codes "thief") _ _ (k, rest) e (λ is f. named _ is (thief_read ws k rest f))
+    (λ e. let z : ◌≡◌ {A = ℕ} 0 1 = cc in never z)))))))
+
 ended_ok : (h k : Command) (ws : List (List ℕ)) → ended h ws ≡ Ok k → (h ≡ k) × (ws ≡ [])
 ended_ok h k [] e = (cc, refl)
 ended_ok h k (w ∷ ws) e = let z : ◌≡◌ {A = ℕ} 0 1 = cc in never z
 
-name_with : (r : Result Name Wrong) (ws : List (List ℕ)) (p : Name × List (List ℕ)) → with r ws ≡ Ok p → (r ≡ Ok p.0) × (ws ≡ p.1)
-name_with (Ok n) ws p e = let r : ◌≡◌ {A = Name × List (List ℕ)} (n, ws) p = cc in (ap (λ q. Ok q.0) r, ap (λ q. q.1) r)
-name_with (Err w) ws p e = let z : ◌≡◌ {A = ℕ} 0 1 = cc in never z
-
 words_ok : (ws : List (List ℕ)) (k : Command) → parsed ws ≡ Ok k → Lawful k × (ws ≡ spelt k)
 words_ok [] k e = let z : ◌≡◌ {A = ℕ} 0 1 = cc in never z
 words_ok (w ∷ ws) k e =
-    let p = then_ok (with (name_of w) ws) (λ n rest. then (command_from n rest) ended) k e in
-    let n = name_with (name_of w) ws p.0 p.1 in
-    let q = then_ok (command_from p.0.0 p.0.1) ended k p.2 in
-    let r = ended_ok q.0.0 k q.0.1 q.2 in
-    let s = command_ok p.0.0 p.0.1 q.0.0 q.0.1 q.1 in
-    (subst Lawful r.0 s.0, (λ i. name_ok w p.0.0 n.0 i ∷ n.1 i) ∙ s.1 ∙ (λ i. spelt (r.0 i) ++ r.1 i) ∙ append-nil (spelt k))
+    let p = then_ok (command_from w ws) ended k e in
+    let q = ended_ok p.0.0 k p.0.1 p.2 in
+    let r = command_ok w ws p.0.0 p.0.1 p.1 in
+    (subst Lawful q.0 r.0, r.1 ∙ (λ i. spelt (q.0 i) ++ q.1 i) ∙ append-nil (spelt k))
 
 -- ---- the law
 

@@ -5,9 +5,7 @@ use Rattle.commands.specs.declared.command.Command.{Command}
 use Rattle.commands.specs.declared.command.Command.TheVariants.{Lock, Card, Day, Bar, Desk, Visit, Thief}
 use Rattle.words.specs.declared.wrong.Wrong.{Wrong}
 use Rattle.words.specs.declared.wrong.Wrong.TheVariants.{UnknownCommand, MissingWord, UnexpectedWord}
-use Rattle.commands.specs.declared.line.Name.{Name}
-use Rattle.commands.specs.declared.line.Name.TheVariants.{Lock as LockName, Card as CardName, Day as DayName, Bar as BarName, Desk as DeskName, Visit as VisitName, Thief as ThiefName}
-use Rattle.words.specs.Words.{Reading, with, then, id_from, number_from, option_from}
+use Rattle.words.specs.Words.{Reading, then, id_from, number_from, option_from}
 
 -- ---- a command as it is written
 
@@ -48,31 +46,27 @@ Lawful (Thief c l s g) = Id c × Id l × Perhaps s × Perhaps g
 
 -- ---- how it is read: from the words that are left
 
+-- the command that is made of what was read
+abbrev pub making : {X : Type 0} → (X → Command) → Reading X → Reading Command
+making make r = then r (λ x rest. Ok (make x, rest))
+
 abbrev pub visit_from : List (List ℕ) → Reading Command
-visit_from ws = then (id_from ws) (λ c xs. then (id_from xs) (λ l rest. Ok (Visit c l, rest)))
+visit_from ws = then (id_from ws) (λ c xs. making (λ l. Visit c l) (id_from xs))
 
 abbrev pub thief_from : List (List ℕ) → Reading Command
 thief_from ws =
-    then (id_from ws) (λ c xs. then (id_from xs) (λ l ys. then (option_from (codes "says") ys) (λ s zs. then (option_from (codes "gives") zs) (λ g rest. Ok (Thief c l s g, rest)))))
+    then (id_from ws) (λ c xs. then (id_from xs) (λ l ys. then (option_from (codes "says") ys) (λ s zs. making (λ g. Thief c l s g) (option_from (codes "gives") zs))))
 
-abbrev pub name_of : List ℕ → Result Name Wrong
-name_of w =
-    cond (bytes_eq w (codes "lock")) (Ok LockName)
-    (cond (bytes_eq w (codes "card")) (Ok CardName)
-    (cond (bytes_eq w (codes "day")) (Ok DayName)
-    (cond (bytes_eq w (codes "bar")) (Ok BarName)
-    (cond (bytes_eq w (codes "desk")) (Ok DeskName)
-    (cond (bytes_eq w (codes "visit")) (Ok VisitName)
-    (cond (bytes_eq w (codes "thief")) (Ok ThiefName) (Err UnknownCommand)))))))
-
-abbrev pub command_from : Name → List (List ℕ) → Reading Command
-command_from LockName ws = then (id_from ws) (λ l rest. Ok (Lock l, rest))
-command_from CardName ws = then (id_from ws) (λ c rest. Ok (Card c, rest))
-command_from DayName ws = then (number_from ws) (λ d rest. Ok (Day d, rest))
-command_from BarName ws = then (id_from ws) (λ c rest. Ok (Bar c, rest))
-command_from DeskName ws = then (id_from ws) (λ c rest. Ok (Desk c, rest))
-command_from VisitName ws = visit_from ws
-command_from ThiefName ws = thief_from ws
+-- the command named w, from the words after its name
+abbrev pub command_from : List ℕ → List (List ℕ) → Reading Command
+command_from w ws =
+    cond (bytes_eq w (codes "lock")) (making (λ l. Lock l) (id_from ws))
+    (cond (bytes_eq w (codes "card")) (making (λ c. Card c) (id_from ws))
+    (cond (bytes_eq w (codes "day")) (making (λ d. Day d) (number_from ws))
+    (cond (bytes_eq w (codes "bar")) (making (λ c. Bar c) (id_from ws))
+    (cond (bytes_eq w (codes "desk")) (making (λ c. Desk c) (id_from ws))
+    (cond (bytes_eq w (codes "visit")) (visit_from ws)
+    (cond (bytes_eq w (codes "thief")) (thief_from ws) (Err UnknownCommand)))))))
 
 abbrev pub ended : Command → List (List ℕ) → Result Command Wrong
 ended k [] = Ok k
@@ -80,7 +74,7 @@ ended k (w ∷ ws) = Err UnexpectedWord
 
 abbrev pub parsed : List (List ℕ) → Result Command Wrong
 parsed [] = Err MissingWord
-parsed (w ∷ ws) = then (with (name_of w) ws) (λ n rest. then (command_from n rest) ended)
+parsed (w ∷ ws) = then (command_from w ws) ended
 
 -- ---- the law of a line: its command is the lawful one that is written so, and a refused line is none
 

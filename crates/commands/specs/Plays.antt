@@ -1,28 +1,22 @@
 -- What a command sets up, or plays. Assumes nothing.
-use Rattle.std.specs.Prelude.{ℕ, Some, None, Option}
+use Rattle.std.specs.Prelude.{Some, None, Option}
 use Rattle.std.specs.Option.{unwrap_or}
 use Rattle.model.specs.declared.Event.{Event}
 use Rattle.model.specs.declared.Event.TheVariants.{Day as OnDay, Bar as BarCard, AtDesk, Visit as HonestVisit, Adversary}
+use Rattle.model.specs.declared.Holder.{Holder}
+use Rattle.model.specs.declared.Holder.TheVariants.{Card as CardHolder, Lock as LockHolder}
 use Rattle.commands.specs.declared.command.Command.{Command}
 use Rattle.commands.specs.declared.command.Command.TheVariants.{Lock, Card, Day, Bar, Desk, Visit, Thief}
 
-abbrev pub card_of : Command → Option ℕ
-card_of (Lock l) = None
-card_of (Card c) = Some c
-card_of (Day d) = None
-card_of (Bar c) = None
-card_of (Desk c) = None
-card_of (Visit c l) = None
-card_of (Thief c l s g) = None
-
-abbrev pub lock_of : Command → Option ℕ
-lock_of (Lock l) = Some l
-lock_of (Card c) = None
-lock_of (Day d) = None
-lock_of (Bar c) = None
-lock_of (Desk c) = None
-lock_of (Visit c l) = None
-lock_of (Thief c l s g) = None
+-- the card or the lock that a command sets up
+abbrev pub set_up_by : Command → Option Holder
+set_up_by (Lock l) = Some (LockHolder l)
+set_up_by (Card c) = Some (CardHolder c)
+set_up_by (Day d) = None
+set_up_by (Bar c) = None
+set_up_by (Desk c) = None
+set_up_by (Visit c l) = None
+set_up_by (Thief c l s g) = None
 
 -- a thief that says nothing of a list says 0
 abbrev pub event_of : Command → Option Event

@@ -1,11 +1,12 @@
 // A command of a script.
 ghost use Rattle.std.specs.Prelude.{◌≡◌};
-ghost use Rattle.commands.specs.Plays.{card_of, lock_of, event_of};
+ghost use Rattle.commands.specs.Plays.{set_up_by, event_of};
 
-use model::Event;
+use model::{Event, Holder};
 
-// A command as it stands on its line. A thief that says nothing of a list and one that `says 0` play the same event, and yet the two are kept apart here, so that each command is written in one way only.
-#[derive(Clone, Copy)]
+// A command as it stands on its line. A thief that says nothing of a list and one that `says 0` play the same event, and yet the two are kept apart here, so that each command is written in one way only. `Lock` and `Card` are
+// apart, and no one variant with a holder, since each variant is a word of the script.
+#[derive(Clone, Copy, Debug, PartialEq, Eq)]
 pub enum Command {
     Lock(u16),
     Card(u16),
@@ -25,20 +26,13 @@ pub enum Command {
 }
 
 impl Command {
-    pub fn card_set_up(self) -> Option<u16>
-        ensures { result ≡ card_of self }
+    // The card or the lock that the command sets up, if it does.
+    pub fn set_up(self) -> Option<Holder>
+        ensures { result ≡ set_up_by self }
     {
         match self {
-            Command::Card(card) => Some(card),
-            _ => None,
-        }
-    }
-
-    pub fn lock_set_up(self) -> Option<u16>
-        ensures { result ≡ lock_of self }
-    {
-        match self {
-            Command::Lock(lock) => Some(lock),
+            Command::Lock(lock) => Some(Holder::Lock(lock)),
+            Command::Card(card) => Some(Holder::Card(card)),
             _ => None,
         }
     }
@@ -48,8 +42,7 @@ impl Command {
         ensures { result ≡ event_of self }
     {
         match self {
-            Command::Lock(_) => None,
-            Command::Card(_) => None,
+            Command::Lock(_) | Command::Card(_) => None,
             Command::Day(day) => Some(Event::Day(day)),
             Command::Bar(card) => Some(Event::Bar(card)),
             Command::Desk(card) => Some(Event::AtDesk(card)),

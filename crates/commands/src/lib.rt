@@ -2,7 +2,7 @@
 #![tactic(auto)]
 
 pub mod command;
-pub mod line;
-pub mod shown;
+mod line;
+mod shown;
 
 pub use command::Command;

@@ -5,24 +5,19 @@ ghost use Rattle.commands.specs.Commands.{optional, written};
 use crate::command::Command;
 use std::fmt;
 
-// A number after a key word, or nothing.
-#[derive(Clone, Copy)]
-struct Choice {
-    key: &'static str,
-    number: Option<u32>,
-}
+// A key word and the number after it, or nothing.
+#[derive(Clone, Copy, Debug)]
+struct Choice(&'static str, Option<u32>);
 
+// Both by hand, since a derived `Display` has no contract.
 impl fmt::Display for Choice {
-    ghost output = { λ x. Some (optional x.key.now x.number) };
+    ghost output = { λ x. Some (optional x.0.now x.1) };
 
     fn fmt<W: fmt::Write>(&self, f: &mut fmt::Formatter<W>) -> fmt::Result {
-        match self.number {
-            None => Ok(()),
-            Some(n) => {
-                let key = self.key;
-                write!(f, "{key}{n}")
-            }
-        }
+        let Choice(key, Some(number)) = *self else {
+            return Ok(());
+        };
+        write!(f, "{key}{number}")
     }
 }
 
@@ -31,30 +26,23 @@ impl fmt::Display for Command {
     ghost output = { λ k. Some (written k) };
 
     fn fmt<W: fmt::Write>(&self, f: &mut fmt::Formatter<W>) -> fmt::Result {
-        let (name, number) = match *self {
-            Command::Lock(lock) => ("lock", u32::from(lock)),
-            Command::Card(card) => ("card", u32::from(card)),
-            Command::Day(day) => ("day", day),
-            Command::Bar(card) => ("bar", u32::from(card)),
-            Command::Desk(card) => ("desk", u32::from(card)),
-            Command::Visit { card, lock } => return write!(f, "visit {card} {lock}"),
+        match *self {
+            Command::Lock(lock) => write!(f, "lock {lock}"),
+            Command::Card(card) => write!(f, "card {card}"),
+            Command::Day(day) => write!(f, "day {day}"),
+            Command::Bar(card) => write!(f, "bar {card}"),
+            Command::Desk(card) => write!(f, "desk {card}"),
+            Command::Visit { card, lock } => write!(f, "visit {card} {lock}"),
             Command::Thief {
                 card,
                 lock,
                 says,
                 gives,
             } => {
-                let says = Choice {
-                    key: " says ",
-                    number: says,
-                };
-                let gives = Choice {
-                    key: " gives ",
-                    number: gives,
-                };
-                return write!(f, "thief {card} {lock}{says}{gives}");
+                let says = Choice(" says ", says);
+                let gives = Choice(" gives ", gives);
+                write!(f, "thief {card} {lock}{says}{gives}")
             }
-        };
-        write!(f, "{name} {number}")
+        }
     }
 }
