@@ -1,7 +1,8 @@
 -- A report, line by line. Assumes nothing.
-use Rattle.std.proofs.Common.{◌≡◌, ℕ, ◌+◌, ◌-◌, ◌<◌, ◌≤◌, true, false, List, [], ◌∷◌, ◌++◌, length, get_or, take, drop, is_some, Some, None, codes, Option, sym, refl, ap, ◌∙◌, append_assoc, append-nil, arith}
-use Rattle.std.proofs.lemmas.List.{at_drop_more, drop_all, take_rest}
-use Rattle.std.proofs.lemmas.Bool.{both_ways}
+use Rattle.std.proofs.Common.{◌≡◌, ℕ, ◌+◌, ◌<◌, ◌≤◌, List, [], ◌∷◌, ◌++◌, length, get_or, drop, Some, None, Bor, Iter, codes, Option, sym, refl, ap, ◌∙◌, append_assoc, append-nil, arith}
+use Rattle.std.proofs.lemmas.List.{at_drop_more, drop_all}
+use Rattle.std.specs.Option.{option_copied}
+use Rattle.std.specs.Slice.Iter.{iter_rest, iter_steps}
 use Rattle.model.specs.declared.Event.{Event}
 use Rattle.model.specs.declared.Answer.{Answer}
 use Rattle.commands.specs.Plays.{event_of}
@@ -9,12 +10,22 @@ use Rattle.commands.specs.Commands.{written}
 use Rattle.commands.specs.declared.command.Command.{Command}
 use Rattle.script.specs.Texts.{outcome_text, answered, unanswered, line_text, report_text}
 
--- an event takes the first answer
-pub taken : (o : Option Event) (xs : List Answer) (d : Answer) → is_some o ≡ true → 0 < length xs →
-    (Some (get_or xs 0 d) ≡ answered o xs) × (take (length xs - 1) (drop 1 xs) ≡ unanswered o xs)
-taken None xs d t lt = absurd (both_ways false refl t)
-taken (Some e) [] d t lt = absurd (omega arith)
-taken (Some e) (x ∷ xs) d t lt = (refl, take_rest (x ∷ xs) 1)
+-- set-up takes no answer
+pub not_asked : (o : Option Event) (xs : List Answer) → o ≡ None → (None ≡ answered o xs) × (xs ≡ unanswered o xs)
+not_asked o xs e = (ap (λ p. answered p xs) (sym e), ap (λ p. unanswered p xs) (sym e))
+
+none_left : (e : Event) (xs : List Answer) → length xs ≡ 0 → (None ≡ answered (Some e) xs) × (xs ≡ unanswered (Some e) xs)
+none_left e [] none = (refl, refl)
+none_left e (x ∷ xs) none = absurd (omega arith)
+
+-- an event takes the next answer
+asked : (e : Event) (s t : Iter Answer) (r : Option (Bor Answer)) → iter_steps s r t → (option_copied r ≡ answered (Some e) (iter_rest s)) × (iter_rest t ≡ unanswered (Some e) (iter_rest s))
+asked e s t None h = let p = none_left e (iter_rest s) h.0 in (p.0, ap iter_rest h.1 ∙ p.1)
+asked e s t (Some x) h = (ap (answered (Some e)) (sym h), ap (unanswered (Some e)) (sym h))
+
+pub taken : (o : Option Event) (e : Event) (s t : Iter Answer) (r : Option (Bor Answer)) → o ≡ Some e → iter_steps s r t → (option_copied r ≡ answered o (iter_rest s)) × (iter_rest t ≡ unanswered o (iter_rest s))
+taken o e s t r is h =
+    let p = asked e s t r h in (p.0 ∙ ap (λ q. answered q (iter_rest s)) (sym is), p.1 ∙ ap (λ q. unanswered q (iter_rest s)) (sym is))
 
 -- one line more is written
 pub line_more : (whole bytes more : List ℕ) (ks : List Command) (xs : List Answer) (i : ℕ) (d : Command) → i < length ks → bytes ++ report_text (drop i ks) xs ≡ whole →
@@ -27,11 +38,11 @@ line_more whole bytes more ks xs i d lt inv is =
     ap (λ (b : List ℕ). bytes ++ b) (sym (at_drop_more (λ (l : List Command). report_text l xs) ks i d lt)) ∙ inv
 
 -- the same, by what was asked for and written in one turn
-pub turn : (whole bytes more : List ℕ) (ks : List Command) (xs left : List Answer) (i : ℕ) (d : Command) (a : Option Answer) (came : List ℕ) → i < length ks → bytes ++ report_text (drop i ks) xs ≡ whole →
-    a ≡ answered (event_of (get_or ks i d)) xs → left ≡ unanswered (event_of (get_or ks i d)) xs → came ≡ outcome_text a →
-    more ≡ bytes ++ (written (get_or ks i d) ++ (codes ": " ++ (came ++ codes "\n"))) → more ++ report_text (drop (i + 1) ks) left ≡ whole
-turn whole bytes more ks xs left i d a came lt inv is rest out wrote =
-    rw rest (line_more whole bytes more ks xs i d lt inv (wrote ∙ ap (λ (t : List ℕ). bytes ++ (written (get_or ks i d) ++ (codes ": " ++ (t ++ codes "\n")))) (out ∙ ap outcome_text is)))
+pub turn : (whole bytes more : List ℕ) (ks : List Command) (xs left : List Answer) (i : ℕ) (d : Command) (a : Option Answer) → i < length ks → bytes ++ report_text (drop i ks) xs ≡ whole →
+    (a ≡ answered (event_of (get_or ks i d)) xs) × (left ≡ unanswered (event_of (get_or ks i d)) xs) →
+    more ≡ bytes ++ (written (get_or ks i d) ++ (codes ": " ++ (outcome_text a ++ codes "\n"))) → more ++ report_text (drop (i + 1) ks) left ≡ whole
+turn whole bytes more ks xs left i d a lt inv is wrote =
+    rw is.1 (line_more whole bytes more ks xs i d lt inv (wrote ∙ ap (λ (o : Option Answer). bytes ++ line_text (get_or ks i d) o) is.0))
 
 -- every line is written
 pub lines_all : (whole bytes : List ℕ) (ks : List Command) (xs : List Answer) (i : ℕ) → length ks ≤ i → bytes ++ report_text (drop i ks) xs ≡ whole → bytes ≡ whole

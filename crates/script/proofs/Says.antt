@@ -1,5 +1,5 @@
 -- A script is read as some commands exactly if it says them. Assumes nothing.
-use Rattle.std.proofs.Common.{◌≡◌, ℕ, ◌+◌, ◌<◌, Bool, true, false, cond, eqb, List, [], ◌∷◌, ◌++◌, map, length, Some, None, Ok, Err, vec_items, Option, Result, sym, refl, ap, ◌∙◌, subst, inl, inr, append_assoc, append-nil, add-zero, arith, length-append}
+use Rattle.std.proofs.Common.{◌≡◌, ℕ, ◌+◌, ◌<◌, Bool, true, false, cond, List, [], ◌∷◌, ◌++◌, map, length, Some, None, Ok, Err, Option, ◌⊎◌, Result, sym, refl, ap, ◌∙◌, subst, inl, inr, append_assoc, append-nil, add-zero, arith, length-append}
 use Rattle.std.specs.List.{AllByRecursion}
 use Rattle.std.proofs.lemmas.Bool.{or_cases, or_left, or_right, eqb-true, eq-eqb, cond-true, cond-false, both_ways}
 use Rattle.commands.specs.declared.command.Command.{Command}
@@ -13,8 +13,11 @@ use Rattle.script.specs.declared.ScriptError.TheVariants.{Faulty, NoMemory}
 use Rattle.words.specs.Lines.{pieces, bare_of}
 use Rattle.words.specs.Words.{words_of}
 use Rattle.commands.specs.Commands.{Lawful, written, parsed}
-use Rattle.commands.specs.Plays.{card_of, lock_of}
-use Rattle.script.specs.Setup.{cards_of, locks_of, has, known_lock, when_ok, checked, command_in, command_on, Above, Ready, InOrder}
+use Rattle.commands.specs.Plays.{set_up_by}
+use Rattle.model.specs.declared.Holder.{Holder}
+use Rattle.model.specs.declared.Holder.TheVariants.{Card as CardHolder, Lock as LockHolder}
+use Rattle.std.specs.Option.{option_to_list}
+use Rattle.script.specs.Setup.{holders_of, same, has, known, when_ok, checked, command_in, command_on, Above, Ready, InOrder}
 use Rattle.script.specs.Scripts.{fault_at, at_end, script_from, script_of, Is, filled, Says, NoCommand, Stops, FirstFault, ScriptLaw}
 use Rattle.words.proofs.Cuts.{pieces_some}
 use Rattle.commands.proofs.Spelt.{read_law, read_written}
@@ -25,71 +28,57 @@ never e = absurd (omega arith)
 
 -- ---- a card or a lock is on the list of those set up exactly if the command stands above
 
-has_card : (c : ℕ) (ks : List Command) → has c (cards_of ks) ≡ true → Above (Card c) ks
-unfolding has
-has_card c [] e = absurd (both_ways false refl e)
-has_card c (Lock l ∷ ks) e = inr (has_card c ks e)
-has_card c (Card b ∷ ks) e =
-    elim (or_cases (eqb b c) (has c (cards_of ks)) e) [ inl t ↦ inl (ap (λ n. Card n) (sym (eqb-true b c t))) | inr t ↦ inr (has_card c ks t) ]
-has_card c (Day d ∷ ks) e = inr (has_card c ks e)
-has_card c (Bar b ∷ ks) e = inr (has_card c ks e)
-has_card c (Desk b ∷ ks) e = inr (has_card c ks e)
-has_card c (Visit b l ∷ ks) e = inr (has_card c ks e)
-has_card c (Thief b l s g ∷ ks) e = inr (has_card c ks e)
+abbrev setting : Holder → Command
+setting (CardHolder c) = Card c
+setting (LockHolder l) = Lock l
 
-abbrev card_number : Command → ℕ
-card_number k = elim (card_of k) [ None ↦ 0 | Some c ↦ c + 1 ]
+sets : (k : Command) (h : Holder) → set_up_by k ≡ Some h → setting h ≡ k
+sets (Lock l) (CardHolder c) e = let z : ◌≡◌ {A = ℕ} 0 1 = cc in never z
+sets (Lock l) (LockHolder m) e = cc
+sets (Card b) (CardHolder c) e = cc
+sets (Card b) (LockHolder l) e = let z : ◌≡◌ {A = ℕ} 0 1 = cc in never z
+sets (Day d) h e = let z : ◌≡◌ {A = ℕ} 0 1 = cc in never z
+sets (Bar c) h e = let z : ◌≡◌ {A = ℕ} 0 1 = cc in never z
+sets (Desk c) h e = let z : ◌≡◌ {A = ℕ} 0 1 = cc in never z
+sets (Visit c l) h e = let z : ◌≡◌ {A = ℕ} 0 1 = cc in never z
+sets (Thief c l s g) h e = let z : ◌≡◌ {A = ℕ} 0 1 = cc in never z
 
-card_has : (c : ℕ) (ks : List Command) → Above (Card c) ks → has c (cards_of ks) ≡ true
-unfolding has
-card_has c [] a = absurd a
-card_has c (Lock l ∷ ks) (inl e) = let z : c + 1 ≡ 0 = ap card_number e in absurd (omega arith)
-card_has c (Lock l ∷ ks) (inr a) = card_has c ks a
-card_has c (Card b ∷ ks) (inl e) = let z : c + 1 ≡ b + 1 = ap card_number e in or_left _ _ (eq-eqb b c (omega arith))
-card_has c (Card b ∷ ks) (inr a) = or_right (eqb b c) _ (card_has c ks a)
-card_has c (Day d ∷ ks) (inl e) = let z : c + 1 ≡ 0 = ap card_number e in absurd (omega arith)
-card_has c (Day d ∷ ks) (inr a) = card_has c ks a
-card_has c (Bar b ∷ ks) (inl e) = let z : c + 1 ≡ 0 = ap card_number e in absurd (omega arith)
-card_has c (Bar b ∷ ks) (inr a) = card_has c ks a
-card_has c (Desk b ∷ ks) (inl e) = let z : c + 1 ≡ 0 = ap card_number e in absurd (omega arith)
-card_has c (Desk b ∷ ks) (inr a) = card_has c ks a
-card_has c (Visit b l ∷ ks) (inl e) = let z : c + 1 ≡ 0 = ap card_number e in absurd (omega arith)
-card_has c (Visit b l ∷ ks) (inr a) = card_has c ks a
-card_has c (Thief b l s g ∷ ks) (inl e) = let z : c + 1 ≡ 0 = ap card_number e in absurd (omega arith)
-card_has c (Thief b l s g ∷ ks) (inr a) = card_has c ks a
+same_is : (g h : Holder) → same g h ≡ true → g ≡ h
+same_is (CardHolder a) (CardHolder b) e = ap (λ n. CardHolder n) (eqb-true a b e)
+same_is (CardHolder a) (LockHolder b) e = absurd (both_ways false refl e)
+same_is (LockHolder a) (CardHolder b) e = absurd (both_ways false refl e)
+same_is (LockHolder a) (LockHolder b) e = ap (λ n. LockHolder n) (eqb-true a b e)
 
-has_lock : (l : ℕ) (ks : List Command) → has l (locks_of ks) ≡ true → Above (Lock l) ks
-unfolding has
-has_lock l [] e = absurd (both_ways false refl e)
-has_lock l (Lock m ∷ ks) e =
-    elim (or_cases (eqb m l) (has l (locks_of ks)) e) [ inl t ↦ inl (ap (λ n. Lock n) (sym (eqb-true m l t))) | inr t ↦ inr (has_lock l ks t) ]
-has_lock l (Card b ∷ ks) e = inr (has_lock l ks e)
-has_lock l (Day d ∷ ks) e = inr (has_lock l ks e)
-has_lock l (Bar b ∷ ks) e = inr (has_lock l ks e)
-has_lock l (Desk b ∷ ks) e = inr (has_lock l ks e)
-has_lock l (Visit b m ∷ ks) e = inr (has_lock l ks e)
-has_lock l (Thief b m s g ∷ ks) e = inr (has_lock l ks e)
+same_self : (h : Holder) → same h h ≡ true
+same_self (CardHolder a) = eq-eqb a a refl
+same_self (LockHolder a) = eq-eqb a a refl
 
-abbrev lock_number : Command → ℕ
-lock_number k = elim (lock_of k) [ None ↦ 0 | Some l ↦ l + 1 ]
+has_first : (h : Holder) (o : Option Holder) (hs : List Holder) → has h (option_to_list o ++ hs) ≡ true → (o ≡ Some h) ⊎ (has h hs ≡ true)
+has_first h None hs e = inr e
+has_first h (Some g) hs e =
+    elim (or_cases (same g h) (has h hs) e) [ inl t ↦ inl (ap (λ x. Some x) (same_is g h t)) | inr t ↦ inr t ]
 
-lock_has : (l : ℕ) (ks : List Command) → Above (Lock l) ks → has l (locks_of ks) ≡ true
-unfolding has
-lock_has l [] a = absurd a
-lock_has l (Lock m ∷ ks) (inl e) = let z : l + 1 ≡ m + 1 = ap lock_number e in or_left _ _ (eq-eqb m l (omega arith))
-lock_has l (Lock m ∷ ks) (inr a) = or_right (eqb m l) _ (lock_has l ks a)
-lock_has l (Card b ∷ ks) (inl e) = let z : l + 1 ≡ 0 = ap lock_number e in absurd (omega arith)
-lock_has l (Card b ∷ ks) (inr a) = lock_has l ks a
-lock_has l (Day d ∷ ks) (inl e) = let z : l + 1 ≡ 0 = ap lock_number e in absurd (omega arith)
-lock_has l (Day d ∷ ks) (inr a) = lock_has l ks a
-lock_has l (Bar b ∷ ks) (inl e) = let z : l + 1 ≡ 0 = ap lock_number e in absurd (omega arith)
-lock_has l (Bar b ∷ ks) (inr a) = lock_has l ks a
-lock_has l (Desk b ∷ ks) (inl e) = let z : l + 1 ≡ 0 = ap lock_number e in absurd (omega arith)
-lock_has l (Desk b ∷ ks) (inr a) = lock_has l ks a
-lock_has l (Visit b m ∷ ks) (inl e) = let z : l + 1 ≡ 0 = ap lock_number e in absurd (omega arith)
-lock_has l (Visit b m ∷ ks) (inr a) = lock_has l ks a
-lock_has l (Thief b m s g ∷ ks) (inl e) = let z : l + 1 ≡ 0 = ap lock_number e in absurd (omega arith)
-lock_has l (Thief b m s g ∷ ks) (inr a) = lock_has l ks a
+first_has : (h : Holder) (o : Option Holder) (hs : List Holder) → o ≡ Some h → has h (option_to_list o ++ hs) ≡ true
+first_has h None hs e = let z : ◌≡◌ {A = ℕ} 0 1 = cc in never z
+first_has h (Some g) hs e = let is : g ≡ h = cc in or_left _ _ (ap (λ x. same x h) is ∙ same_self h)
+
+rest_has : (h : Holder) (o : Option Holder) (hs : List Holder) → has h hs ≡ true → has h (option_to_list o ++ hs) ≡ true
+rest_has h None hs e = e
+rest_has h (Some g) hs e = or_right (same g h) _ e
+
+has_above : (h : Holder) (ks : List Command) → has h (holders_of ks) ≡ true → Above (setting h) ks
+has_above h [] e = absurd (both_ways false refl e)
+has_above h (k ∷ ks) e =
+    elim (has_first h (set_up_by k) (holders_of ks) e) [ inl is ↦ inl (sets k h is) | inr more ↦ inr (has_above h ks more) ]
+
+sets_up : (h : Holder) → set_up_by (setting h) ≡ Some h
+sets_up (CardHolder c) = refl
+sets_up (LockHolder l) = refl
+
+above_has : (h : Holder) (ks : List Command) → Above (setting h) ks → has h (holders_of ks) ≡ true
+above_has h [] a = absurd a
+above_has h (k ∷ ks) (inl e) = first_has h (set_up_by k) (holders_of ks) (ap set_up_by (sym e) ∙ sets_up h)
+above_has h (k ∷ ks) (inr a) = rest_has h (set_up_by k) (holders_of ks) (above_has h ks a)
 
 -- ---- `checked` passes exactly what is ready
 
@@ -111,27 +100,27 @@ both_ok w v false b e = let z : ◌≡◌ {A = ℕ} 0 1 = cc in never z
 not_has : (b : Bool) {A : Type 0} → b ≡ false → (A → b ≡ true) → A → ⊥
 not_has b f h a = both_ways b f (h a)
 
-checked_ready : (above : List Command) (k : Command) → checked (cards_of above) (locks_of above) k ≡ Ok tt → Ready above k
-checked_ready above (Lock l) e = not_has _ (new_ok SetUpAlready _ e) (lock_has l above)
-checked_ready above (Card c) e = not_has _ (new_ok SetUpAlready _ e) (card_has c above)
+checked_ready : (above : List Command) (k : Command) → checked (holders_of above) k ≡ Ok tt → Ready above k
+checked_ready above (Lock l) e = not_has _ (new_ok SetUpAlready _ e) (above_has (LockHolder l) above)
+checked_ready above (Card c) e = not_has _ (new_ok SetUpAlready _ e) (above_has (CardHolder c) above)
 checked_ready above (Day d) e = tt
-checked_ready above (Bar c) e = has_card c above (known_ok (NoSuchCard c) _ e)
-checked_ready above (Desk c) e = has_card c above (known_ok (NoSuchCard c) _ e)
-checked_ready above (Visit c l) e = let p = both_ok (NoSuchCard c) (NoSuchLock l) (has c (cards_of above)) (has l (locks_of above)) e in (has_card c above p.0, has_lock l above p.1)
-checked_ready above (Thief c l s g) e = let p = both_ok (NoSuchCard c) (NoSuchLock l) (has c (cards_of above)) (has l (locks_of above)) e in (has_card c above p.0, has_lock l above p.1)
+checked_ready above (Bar c) e = has_above (CardHolder c) above (known_ok (NoSuchCard c) _ e)
+checked_ready above (Desk c) e = has_above (CardHolder c) above (known_ok (NoSuchCard c) _ e)
+checked_ready above (Visit c l) e = let p = both_ok (NoSuchCard c) (NoSuchLock l) (has (CardHolder c) (holders_of above)) (has (LockHolder l) (holders_of above)) e in (has_above (CardHolder c) above p.0, has_above (LockHolder l) above p.1)
+checked_ready above (Thief c l s g) e = let p = both_ok (NoSuchCard c) (NoSuchLock l) (has (CardHolder c) (holders_of above)) (has (LockHolder l) (holders_of above)) e in (has_above (CardHolder c) above p.0, has_above (LockHolder l) above p.1)
 
 absent : (b : Bool) {A : Type 0} → (b ≡ true → A) → (A → ⊥) → b ≡ false
 absent true h none = absurd (none (h refl))
 absent false h none = refl
 
-ready_checked : (above : List Command) (k : Command) → Ready above k → checked (cards_of above) (locks_of above) k ≡ Ok tt
-ready_checked above (Lock l) r = cond-false _ _ _ (absent _ (has_lock l above) r)
-ready_checked above (Card c) r = cond-false _ _ _ (absent _ (has_card c above) r)
+ready_checked : (above : List Command) (k : Command) → Ready above k → checked (holders_of above) k ≡ Ok tt
+ready_checked above (Lock l) r = cond-false _ _ _ (absent _ (has_above (LockHolder l) above) r)
+ready_checked above (Card c) r = cond-false _ _ _ (absent _ (has_above (CardHolder c) above) r)
 ready_checked above (Day d) r = refl
-ready_checked above (Bar c) r = cond-true _ _ _ (card_has c above r)
-ready_checked above (Desk c) r = cond-true _ _ _ (card_has c above r)
-ready_checked above (Visit c l) r = ap (λ b. when_ok (cond b (Ok tt) (Err (NoSuchCard c))) (λ _. known_lock (locks_of above) l)) (card_has c above r.0) ∙ cond-true _ _ _ (lock_has l above r.1)
-ready_checked above (Thief c l s g) r = ap (λ b. when_ok (cond b (Ok tt) (Err (NoSuchCard c))) (λ _. known_lock (locks_of above) l)) (card_has c above r.0) ∙ cond-true _ _ _ (lock_has l above r.1)
+ready_checked above (Bar c) r = cond-true _ _ _ (above_has (CardHolder c) above r)
+ready_checked above (Desk c) r = cond-true _ _ _ (above_has (CardHolder c) above r)
+ready_checked above (Visit c l) r = ap (λ b. when_ok (cond b (Ok tt) (Err (NoSuchCard c))) (λ _. known (holders_of above) (LockHolder l))) (above_has (CardHolder c) above r.0) ∙ cond-true _ _ _ (above_has (LockHolder l) above r.1)
+ready_checked above (Thief c l s g) r = ap (λ b. when_ok (cond b (Ok tt) (Err (NoSuchCard c))) (λ _. known (holders_of above) (LockHolder l))) (above_has (CardHolder c) above r.0) ∙ cond-true _ _ _ (above_has (LockHolder l) above r.1)
 
 -- ---- what a line says
 
@@ -146,28 +135,28 @@ heard_parts : (r : Result Command Wrong) (f : Command → Passed) (o : Option Co
 heard_parts (Ok k) f o e = let p = check_parts (f k) k o e in (k, p.0, refl, p.1)
 heard_parts (Err w) f o e = let z : ◌≡◌ {A = ℕ} 0 1 = cc in never z
 
-said_none : (cs ls t : List ℕ) → command_in cs ls t ≡ Ok None → t ≡ []
-said_none cs ls [] e = refl
-said_none cs ls (b ∷ bs) e =
-    let p = heard_parts (parsed (words_of (b ∷ bs))) (checked cs ls) None e in let z : ◌≡◌ {A = ℕ} 0 1 = cc p.1 in never z
+said_none : (hs : List Holder) (t : List ℕ) → command_in hs t ≡ Ok None → t ≡ []
+said_none hs [] e = refl
+said_none hs (b ∷ bs) e =
+    let p = heard_parts (parsed (words_of (b ∷ bs))) (checked hs) None e in let z : ◌≡◌ {A = ℕ} 0 1 = cc p.1 in never z
 
-pub record Said (cs ls t : List ℕ) (k : Command) : Type 0 where
+pub record Said (hs : List Holder) (t : List ℕ) (k : Command) : Type 0 where
   pub filled : t ≡ [] → ⊥
   pub lawful : Lawful k
   pub same : written k ≡ t
-  pub passed : checked cs ls k ≡ Ok tt
+  pub passed : checked hs k ≡ Ok tt
 
-said_some : (cs ls t : List ℕ) (k : Command) → command_in cs ls t ≡ Ok (Some k) → Said cs ls t k
-said_some cs ls [] k e = let p : ◌≡◌ {A = Option Command} None (Some k) = cc in let z : ◌≡◌ {A = ℕ} 0 1 = cc in never z
-said_some cs ls (b ∷ bs) k e =
-    let p = heard_parts (parsed (words_of (b ∷ bs))) (checked cs ls) (Some k) e in
+said_some : (hs : List Holder) (t : List ℕ) (k : Command) → command_in hs t ≡ Ok (Some k) → Said hs t k
+said_some hs [] k e = let p : ◌≡◌ {A = Option Command} None (Some k) = cc in let z : ◌≡◌ {A = ℕ} 0 1 = cc in never z
+said_some hs (b ∷ bs) k e =
+    let p = heard_parts (parsed (words_of (b ∷ bs))) (checked hs) (Some k) e in
     let same : p.0 ≡ k = cc p.1 in
     let law = read_law (b ∷ bs) (Ok p.0) (sym p.2) in
     record {
       filled = λ n. let z : ◌≡◌ {A = ℕ} 0 1 = cc in omega arith;
       lawful = subst Lawful same law.0;
       same = ap written (sym same) ∙ law.1;
-      passed = ap (checked cs ls) (sym same) ∙ p.3;
+      passed = ap (checked hs) (sym same) ∙ p.3;
     }
 
 filled_some : (t : List ℕ) (ts : List (List ℕ)) → (t ≡ [] → ⊥) → filled (t ∷ ts) ≡ t ∷ filled ts
@@ -193,11 +182,11 @@ at_end_found n (k ∷ ks) [] all e =
     record { rows = []; ks = []; whole = refl; sum = sym same ∙ sym (append-nil _); same = refl; lawful = tt; ready = tt; some = omega (arith, ap length same) }
 at_end_found n above (b ∷ bs) all e = let z : ◌≡◌ {A = ℕ} 0 1 = cc in never z
 
-line_read : (n : ℕ) (above : List Command) (l : List ℕ) (rest : List (List ℕ)) (all : List Command) (r : Heard) → command_on (cards_of above) (locks_of above) l ≡ r → go_on r n above rest ≡ Ok all → ((more : List Command) → script_from (n + 1) more rest ≡ Ok all → Found more rest all) → Found above (l ∷ rest) all
+line_read : (n : ℕ) (above : List Command) (l : List ℕ) (rest : List (List ℕ)) (all : List Command) (r : Heard) → command_on (holders_of above) l ≡ r → go_on r n above rest ≡ Ok all → ((more : List Command) → script_from (n + 1) more rest ≡ Ok all → Found more rest all) → Found above (l ∷ rest) all
 line_read n above l rest all (Err w) is e go = let z : ◌≡◌ {A = ℕ} 0 1 = cc in never z
 line_read n above l rest all (Ok None) is e go =
     let h = go above (ap (λ ks. script_from (n + 1) ks rest) (sym (append-nil above)) ∙ e) in
-    let bare = said_none (cards_of above) (locks_of above) (bare_of l) is in
+    let bare = said_none (holders_of above) (bare_of l) is in
     record {
       rows = l ∷ h.rows;
       ks = h.ks;
@@ -210,7 +199,7 @@ line_read n above l rest all (Ok None) is e go =
     }
 line_read n above l rest all (Ok (Some k)) is e go =
     let h = go (above ++ k ∷ []) e in
-    let said = said_some (cards_of above) (locks_of above) (bare_of l) k is in
+    let said = said_some (holders_of above) (bare_of l) k is in
     record {
       rows = l ∷ h.rows;
       ks = k ∷ h.ks;
@@ -227,7 +216,7 @@ unfolding script_from
 found n above [] all e some = absurd (some refl)
 found n above (l ∷ []) all e some = at_end_found n above l all e
 found n above (l ∷ m ∷ ls) all e some =
-    line_read n above l (m ∷ ls) all (command_on (cards_of above) (locks_of above) l) refl e (λ more f. found (n + 1) more (m ∷ ls) all f (λ z. let y : ◌≡◌ {A = ℕ} 0 1 = cc in omega arith))
+    line_read n above l (m ∷ ls) all (command_on (holders_of above) l) refl e (λ more f. found (n + 1) more (m ∷ ls) all f (λ z. let y : ◌≡◌ {A = ℕ} 0 1 = cc in omega arith))
 
 -- ---- what is said is read
 
@@ -239,10 +228,10 @@ ends n (k ∷ ks) some = refl
 snoc_some : {X : Type 0} (xs : List X) (x : X) → xs ++ x ∷ [] ≡ [] → ⊥
 snoc_some xs x e = let z : length xs + 1 ≡ 0 = sym (length-append xs (x ∷ [])) ∙ ap length e in omega arith
 
-hear : (cs ls t : List ℕ) (k : Command) → (t ≡ [] → ⊥) → Lawful k → written k ≡ t → checked cs ls k ≡ Ok tt → command_in cs ls t ≡ Ok (Some k)
-hear cs ls [] k some law same ok = absurd (some refl)
-hear cs ls (b ∷ bs) k some law same ok =
-    ap (λ r. when_ok r (λ j. when_ok (checked cs ls j) (λ _. Ok (Some j)))) (read_written (b ∷ bs) k law same) ∙ ap (λ p. when_ok p (λ _. Ok (Some k))) ok
+hear : (hs : List Holder) (t : List ℕ) (k : Command) → (t ≡ [] → ⊥) → Lawful k → written k ≡ t → checked hs k ≡ Ok tt → command_in hs t ≡ Ok (Some k)
+hear hs [] k some law same ok = absurd (some refl)
+hear hs (b ∷ bs) k some law same ok =
+    ap (λ r. when_ok r (λ j. when_ok (checked hs j) (λ _. Ok (Some j)))) (read_written (b ∷ bs) k law same) ∙ ap (λ p. when_ok p (λ _. Ok (Some k))) ok
 
 abbrev Rest : ℕ → List (List ℕ) → Type 0
 Rest n rows =
@@ -251,17 +240,17 @@ Rest n rows =
 one_line : (n : ℕ) (above : List Command) (l : List ℕ) (rows : List (List ℕ)) (ks : List Command) (t : List ℕ) → bare_of l ≡ t → filled (t ∷ map bare_of rows) ≡ map written ks → AllByRecursion Lawful ks → InOrder above ks → 0 < length (above ++ ks) → Rest (n + 1) rows → script_from n above (l ∷ (rows ++ [] ∷ [])) ≡ Ok (above ++ ks)
 one_line n above l rows ks [] is same law ready some go =
     line_then n above l (rows ++ [] ∷ []) (snoc_some rows [])
-    ∙ ap (λ t. go_on (command_in (cards_of above) (locks_of above) t) n above (rows ++ [] ∷ [])) is
+    ∙ ap (λ t. go_on (command_in (holders_of above) t) n above (rows ++ [] ∷ [])) is
     ∙ ap (λ x. script_from (n + 1) x (rows ++ [] ∷ [])) (append-nil above)
     ∙ go above ks same law ready some
 one_line n above l rows [] (b ∷ bs) is same law ready some go = let z : ◌≡◌ {A = ℕ} 0 1 = cc in never z
 one_line n above l rows (k ∷ ks) (b ∷ bs) is same law ready some go =
     let head : b ∷ bs ≡ written k = cc in
     let tail : filled (map bare_of rows) ≡ map written ks = cc in
-    let heard = hear (cards_of above) (locks_of above) (b ∷ bs) k (λ z. let y : ◌≡◌ {A = ℕ} 0 1 = cc in omega arith) law.0 (sym head) (ready_checked above k ready.0) in
+    let heard = hear (holders_of above) (b ∷ bs) k (λ z. let y : ◌≡◌ {A = ℕ} 0 1 = cc in omega arith) law.0 (sym head) (ready_checked above k ready.0) in
     let join = append_assoc above (k ∷ []) ks in
     line_then n above l (rows ++ [] ∷ []) (snoc_some rows [])
-    ∙ ap (λ t. go_on (command_in (cards_of above) (locks_of above) t) n above (rows ++ [] ∷ [])) is
+    ∙ ap (λ t. go_on (command_in (holders_of above) t) n above (rows ++ [] ∷ [])) is
     ∙ ap (λ r. go_on r n above (rows ++ [] ∷ [])) heard
     ∙ go (above ++ k ∷ []) ks tail law.1 ready.1 (omega (arith, ap length join))
     ∙ ap (λ x. Ok x) join
@@ -295,25 +284,25 @@ here n above ls f stops = record {
   stops = subst (λ m. Stops m (above ++ []) ls f) (sym (add-zero n)) (subst (λ ks. Stops n ks ls f) (sym (append-nil above)) stops);
 }
 
-unwritten : (ks : List Command) (t : List ℕ) (w : Wrong) → command_in (cards_of ks) (locks_of ks) t ≡ Err w → (k : Command) → Lawful k → Ready ks k → written k ≡ t → ⊥
+unwritten : (ks : List Command) (t : List ℕ) (w : Wrong) → command_in (holders_of ks) t ≡ Err w → (k : Command) → Lawful k → Ready ks k → written k ≡ t → ⊥
 unwritten ks [] w e k law ready same = let z : ◌≡◌ {A = ℕ} 0 1 = cc in omega arith
 unwritten ks (b ∷ bs) w e k law ready same =
-    let heard = hear (cards_of ks) (locks_of ks) (b ∷ bs) k (λ n. let y : ◌≡◌ {A = ℕ} 0 1 = cc in omega arith) law same (ready_checked ks k ready) in
+    let heard = hear (holders_of ks) (b ∷ bs) k (λ n. let y : ◌≡◌ {A = ℕ} 0 1 = cc in omega arith) law same (ready_checked ks k ready) in
     let z : ◌≡◌ {A = ℕ} 0 1 = cc in
     omega arith
 
-unheard : (ks : List Command) (t : List ℕ) (w : Wrong) → command_in (cards_of ks) (locks_of ks) t ≡ Err w → NoCommand ks t
+unheard : (ks : List Command) (t : List ℕ) (w : Wrong) → command_in (holders_of ks) t ≡ Err w → NoCommand ks t
 unheard ks t w e = (
-  λ none. let z : ◌≡◌ {A = ℕ} 0 1 = cc (ap (command_in (cards_of ks) (locks_of ks)) none) in omega arith,
+  λ none. let z : ◌≡◌ {A = ℕ} 0 1 = cc (ap (command_in (holders_of ks)) none) in omega arith,
   λ k law ready same. unwritten ks t w e k law ready same,
 )
 
-line_broken : (n : ℕ) (above : List Command) (l m : List ℕ) (ls : List (List ℕ)) (f : LineFault) (r : Heard) → command_on (cards_of above) (locks_of above) l ≡ r → go_on r n above (m ∷ ls) ≡ Err f → ((more : List Command) → script_from (n + 1) more (m ∷ ls) ≡ Err f → Broken (n + 1) more (m ∷ ls) f) → Broken n above (l ∷ m ∷ ls) f
+line_broken : (n : ℕ) (above : List Command) (l m : List ℕ) (ls : List (List ℕ)) (f : LineFault) (r : Heard) → command_on (holders_of above) l ≡ r → go_on r n above (m ∷ ls) ≡ Err f → ((more : List Command) → script_from (n + 1) more (m ∷ ls) ≡ Err f → Broken (n + 1) more (m ∷ ls) f) → Broken n above (l ∷ m ∷ ls) f
 line_broken n above l m ls f (Err w) is e go =
     let same : fault_at n w ≡ f = cc in here n above (l ∷ m ∷ ls) f (sym (ap (λ x. x.line) same), is ∙ ap (λ x. Err x.wrong) same, unheard above (bare_of l) w is)
 line_broken n above l m ls f (Ok None) is e go =
     let h = go above (ap (λ ks. script_from (n + 1) ks (m ∷ ls)) (sym (append-nil above)) ∙ e) in
-    let bare = said_none (cards_of above) (locks_of above) (bare_of l) is in
+    let bare = said_none (holders_of above) (bare_of l) is in
     let next : n + 1 + length h.rows ≡ n + length (l ∷ h.rows) = omega arith in
     record {
       rows = l ∷ h.rows;
@@ -327,7 +316,7 @@ line_broken n above l m ls f (Ok None) is e go =
     }
 line_broken n above l m ls f (Ok (Some k)) is e go =
     let h = go (above ++ k ∷ []) e in
-    let said = said_some (cards_of above) (locks_of above) (bare_of l) k is in
+    let said = said_some (holders_of above) (bare_of l) k is in
     let next : n + 1 + length h.rows ≡ n + length (l ∷ h.rows) = omega arith in
     record {
       rows = l ∷ h.rows;
@@ -345,7 +334,7 @@ unfolding script_from
 broken n above [] f e some = absurd (some refl)
 broken n above (l ∷ []) f e some = here n above (l ∷ []) f e
 broken n above (l ∷ m ∷ ls) f e some =
-    line_broken n above l m ls f (command_on (cards_of above) (locks_of above) l) refl e (λ more g. broken (n + 1) more (m ∷ ls) f g (λ z. let y : ◌≡◌ {A = ℕ} 0 1 = cc in omega arith))
+    line_broken n above l m ls f (command_on (holders_of above) l) refl e (λ more g. broken (n + 1) more (m ∷ ls) f g (λ z. let y : ◌≡◌ {A = ℕ} 0 1 = cc in omega arith))
 
 first_fault : (text : List ℕ) (f : LineFault) → script_of text ≡ Err f → FirstFault text f
 first_fault text f e =
@@ -369,8 +358,8 @@ says_none text f e ks says =
     omega arith
 
 pub script_law : (text : List ℕ) (r : Result Script ScriptError) → Is (script_of text) r → ScriptLaw text r
-script_law text (Ok s) h =
-    let f = found 1 [] (pieces 10 text) (vec_items s.commands) h.0 (pieces_some 10 text) in
+script_law text (Ok ks) h =
+    let f = found 1 [] (pieces 10 text) ks h (pieces_some 10 text) in
     record {
       rows = f.rows;
       whole = f.whole;

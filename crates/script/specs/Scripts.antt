@@ -1,5 +1,5 @@
 -- What a whole script says. Assumes nothing.
-use Rattle.std.specs.Prelude.{◌≡◌, ℕ, ◌+◌, ◌<◌, List, [], ◌∷◌, ◌++◌, map, length, Ok, Err, vec_items, Result, ◌≢◌}
+use Rattle.std.specs.Prelude.{◌≡◌, ℕ, ◌+◌, ◌<◌, List, [], ◌∷◌, ◌++◌, map, length, Ok, Err, Result, ◌≢◌}
 use Rattle.std.specs.Option.{option_to_list}
 use Rattle.std.specs.List.{AllByRecursion}
 use Rattle.commands.specs.declared.command.Command.{Command}
@@ -10,8 +10,7 @@ use Rattle.script.specs.declared.Script.{Script}
 use Rattle.script.specs.declared.ScriptError.{ScriptError}
 use Rattle.script.specs.declared.ScriptError.TheVariants.{Faulty, NoMemory}
 use Rattle.words.specs.Lines.{pieces, bare_of}
-use Rattle.commands.specs.Plays.{card_of, lock_of, event_of}
-use Rattle.script.specs.Setup.{cards_of, locks_of, events_of, command_on, Ready, InOrder}
+use Rattle.script.specs.Setup.{holders_of, command_on, Ready, InOrder}
 use Rattle.commands.specs.Commands.{Lawful, written}
 
 -- ---- what is read, line by line
@@ -30,7 +29,7 @@ unfoldable pub script_from : ℕ → List Command → List (List ℕ) → Result
 script_from n ks [] = at_end n ks []
 script_from n ks (l ∷ []) = at_end n ks l
 script_from n ks (l ∷ m ∷ ls) =
-    elim (command_on (cards_of ks) (locks_of ks) l) [
+    elim (command_on (holders_of ks) l) [
       | Ok o ↦ script_from (n + 1) (ks ++ option_to_list o) (m ∷ ls)
       | Err w ↦ Err (fault_at n w)
     ]
@@ -40,22 +39,8 @@ script_of text = script_from 1 [] (pieces 10 text)
 
 -- ---- what `read` answers
 
--- b is a with the command k at its end
-pub record Added (a : Script) (k : Command) (b : Script) : Type 0 where
-  pub commands : vec_items b.commands ≡ vec_items a.commands ++ k ∷ []
-  pub cards : vec_items b.cards ≡ vec_items a.cards ++ option_to_list (card_of k)
-  pub locks : vec_items b.locks ≡ vec_items a.locks ++ option_to_list (lock_of k)
-  pub events : vec_items b.events ≡ vec_items a.events ++ option_to_list (event_of k)
-
--- the lists of s are those of the commands ks
-pub record Lists (s : Script) (ks : List Command) : Type 0 where
-  pub commands : vec_items s.commands ≡ ks
-  pub cards : vec_items s.cards ≡ cards_of ks
-  pub locks : vec_items s.locks ≡ locks_of ks
-  pub events : vec_items s.events ≡ events_of ks
-
 abbrev pub Is : Result (List Command) LineFault → Result Script ScriptError → Type 0
-Is x (Ok s) = (x ≡ Ok (vec_items s.commands)) × Lists s (vec_items s.commands)
+Is x (Ok ks) = x ≡ Ok ks
 Is x (Err (Faulty f)) = x ≡ Err f
 Is x (Err NoMemory) = Unit {0}
 
@@ -88,7 +73,7 @@ NoCommand ks t = (t ≢ []) × ((k : Command) → Lawful k → Ready ks k → wr
 abbrev pub Stops : ℕ → List Command → List (List ℕ) → LineFault → Type 0
 Stops n ks [] f = ⊥
 Stops n ks (l ∷ []) f = at_end n ks l ≡ Err f
-Stops n ks (l ∷ m ∷ ls) f = (f.line ≡ n) × (command_on (cards_of ks) (locks_of ks) l ≡ Err f.wrong) × NoCommand ks (bare_of l)
+Stops n ks (l ∷ m ∷ ls) f = (f.line ≡ n) × (command_on (holders_of ks) l ≡ Err f.wrong) × NoCommand ks (bare_of l)
 
 -- the lines above the fault are in order
 pub record FirstFault (text : List ℕ) (f : LineFault) : Type 0 where
@@ -100,6 +85,6 @@ pub record FirstFault (text : List ℕ) (f : LineFault) : Type 0 where
   pub stops : Stops (1 + length rows) commands rest f
 
 abbrev pub ScriptLaw : List ℕ → Result Script ScriptError → Type 0
-ScriptLaw text (Ok s) = Says text (vec_items s.commands)
+ScriptLaw text (Ok ks) = Says text ks
 ScriptLaw text (Err (Faulty f)) = FirstFault text f × ((ks : List Command) → Says text ks → ⊥)
 ScriptLaw text (Err NoMemory) = Unit {0}

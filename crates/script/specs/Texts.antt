@@ -10,10 +10,6 @@ use Rattle.model.specs.declared.Event.{Event}
 use Rattle.model.specs.declared.Answer.{Answer}
 use Rattle.model.specs.declared.Answer.TheVariants.{Today, Barring, Given, Refused, Decided, BrokenOff, NoList}
 
-abbrev pub number_text : Option ℕ → List ℕ
-number_text None = []
-number_text (Some n) = decimal n
-
 -- what came of an event, or that a card or a lock is set up
 abbrev pub outcome_text : Option Answer → List ℕ
 outcome_text None = codes "ready"

@@ -3,14 +3,19 @@ ghost use Rattle.std.specs.Prelude.{Some};
 ghost use Rattle.script.specs.Shown.{fault_text, error_text};
 
 use crate::{LineFault, ScriptError};
+use std::error::Error;
 use std::fmt;
 
+impl Error for LineFault {}
+
+impl Error for ScriptError {}
+
+// Both by hand, since a derived `Display` has no contract.
 impl fmt::Display for LineFault {
     ghost output = { λ x. Some (fault_text x) };
 
     fn fmt<W: fmt::Write>(&self, f: &mut fmt::Formatter<W>) -> fmt::Result {
-        let line = self.line;
-        let wrong = self.wrong;
+        let LineFault { line, wrong } = *self;
         write!(f, "line {line}: {wrong}")
     }
 }

@@ -1,44 +1,62 @@
-use Rattle.std.proofs.Common.{◌<◌, [], ◌∷◌, length, Ok, Err, vec_items, sym, ap, ◌∙◌, arith}
+use Rattle.std.proofs.Common.{◌≡◌, ◌-◌, ◌+◌, ◌<◌, length, get_or, sym, ap, ◌∙◌, arith, rules, Ok, Err, None, Some}
+use Rattle.std.specs.Iterator.Adapters.{enumerate_source}
 use Rattle.std.proofs.lemmas.Result.{err_from_is_err_and}
+use borrow.Author.Tests.{tests}
+use Rattle.words.specs.declared.wrong.Wrong.TheVariants.{NoNewline, Empty}
 use Rattle.script.specs.declared.ScriptError.TheVariants.{Faulty}
 use Rattle.script.specs.Scripts.{fault_at}
-use Rattle.script.proofs.Turns.{wrong_line, no_command, one_command, no_newline, all_read, nothing_read, not_empty, is_empty}
+use Rattle.script.proofs.Rows.{row_of, line_of, row_cut_off}
+use Rattle.script.proofs.Turns.{wrong_line, no_command, one_command, no_newline, all_read, nothing_read}
 use Rattle.script.proofs.Says.{script_law}
 use Rattle.script.proofs.read.Goals as goal
+use Rattle.script.proofs.read.Goals.{in_default-via-then-row-lt1, in_default-via-else-row-lt1+in_default-1}
 
 pub returns-in_default : goal.returns-in_default
 returns-in_default c =
-    let last = rw c.in_default.is at c.cut.ensures in
-    let value = no_newline c.loop-rest.invariant (not_empty _ c.loop-rest-test.ensures) (last.0 ∙ ap (λ l. l ∷ []) last.1) in
-    rw c.faulty.ensures (record { value = value; law = script_law c.args.text.now (Err (Faulty (fault_at _ _))) value })
+    let step = c.in-Some.ensures.steps in
+    let row = row_of _ (enumerate_source c.loop-above.above-iterator) (enumerate_source c.next.new.self) c.in-Some.row step.0 (λ f a r g k. search (rules, tests)) in
+    let other : get_or c.in-Some.row.now (length c.in-Some.row.now - 1) 0 ≡ 10 → ⊥ =
+    elim c.in_default.branch [
+      | in_default-via-then-row-lt1 w ↦ let short : length c.in-Some.row.now < 1 = search rules in absurd (omega (arith, row.long, row.filled))
+      | in_default-via-else-row-lt1+in_default-1 w ↦ search rules
+    ] in
+    let value = no_newline c.loop-above.invariant.2 row.filled (row_cut_off row other) ∙ ap (λ n. Err (fault_at (n + 1) NoNewline)) (sym step.1) in
+    let is : c.into.result ≡ Faulty (fault_at (c.in-Some.above + 1) NoNewline) = search rules in
+    rw is (record { value = value; law = script_law c.args.text.now (Err (Faulty (fault_at _ _))) value })
 
-pub returns-in-Err : goal.returns-in-Err
-returns-in-Err c =
-    let next = rw c.in-Some.is at c.cut.ensures in
-    let value = wrong_line c.loop-rest.invariant _ _ _ _ next c.command_on.ensures c.in-Err.is in
-    rw c.faulty-in-Err.ensures (record { value = value; law = script_law c.args.text.now (Err (Faulty (fault_at _ _))) value })
+pub returns-in_err-said : goal.returns-in_err-said
+returns-in_err-said c =
+    let step = c.in-Some.ensures.steps in
+    let next = line_of _ (enumerate_source c.loop-above.above-iterator) (enumerate_source c.next.new.self) c.in-Some.row step.0 (λ f a r g k. search (rules, tests)) (search rules) in
+    let p = err_from_is_err_and c.from_residual.result c.from_residual.ensures.1 in
+    let wrong : c.command_on.result ≡ Err c.in_err-said.field-0.0.wrong = search rules in
+    let line : c.in_err-said.field-0.0.line ≡ c.in-Some.above + 1 = search rules in
+    let value = wrong_line c.loop-above.invariant.2 _ _ c.in_err-said.field-0.0.wrong next (sym c.command_on.ensures ∙ wrong) ∙ ap (λ n. Err (fault_at n c.in_err-said.field-0.0.wrong)) (ap (λ n. n + 1) (sym step.1) ∙ sym line) in
+    rw (p.1, p.2) (record { value = value; law = script_law c.args.text.now (Err (Faulty _)) value })
 
-pub returns-in_err-add-in-Some-found : goal.returns-in_err-add-in-Some-found
-returns-in_err-add-in-Some-found c =
-    let p = err_from_is_err_and c.from_residual.result c.from_residual.ensures.1 in rw (p.1, p.2) (record { value = tt; law = tt })
+pub loop-above-preserved : goal.loop-above-preserved
+loop-above-preserved c =
+    let step = c.in-Some.ensures.steps in
+    let next = line_of _ (enumerate_source c.loop-above.above-iterator) (enumerate_source c.next.new.self) c.in-Some.row step.0 (λ f a r g k. search (rules, tests)) (search rules) in
+    let heard : c.command_on.result ≡ Ok None = search rules in
+    (search rules, search rules, rw step.2 (no_command c.loop-above.invariant.2 _ _ next (sym c.command_on.ensures ∙ heard)))
 
-pub loop-rest-preserved : goal.loop-rest-preserved
-loop-rest-preserved c =
-    let next = rw c.in-Some.is at c.cut.ensures in
-    one_command c.loop-rest.invariant _ _ _ _ _ next c.command_on.ensures (c.in-Ok.is ∙ ap (λ o. Ok o) c.in-Some-found.is) c.in_ok-add-in-Some-found.ensures
-
-pub loop-rest-preserved-in-None : goal.loop-rest-preserved-in-None
-loop-rest-preserved-in-None c =
-    let next = rw c.in-Some.is at c.cut.ensures in
-    no_command c.loop-rest.invariant _ _ _ next c.command_on.ensures (c.in-Ok.is ∙ ap (λ o. Ok o) c.in-None.is)
+pub loop-above-preserved-in-Some-said : goal.loop-above-preserved-in-Some-said
+loop-above-preserved-in-Some-said c =
+    let step = c.in-Some.ensures.steps in
+    let next = line_of _ (enumerate_source c.loop-above.above-iterator) (enumerate_source c.next.new.self) c.in-Some.row step.0 (λ f a r g k. search (rules, tests)) (search rules) in
+    let heard : c.command_on.result ≡ Ok (Some c.in-Some-said.command) = search rules in
+    (search rules, search rules, rw (step.2, c.in_ok-script.ensures) (one_command c.loop-above.invariant.2 _ _ _ next (sym c.command_on.ensures ∙ heard)))
 
 pub returns-then-is_empty : goal.returns-then-is_empty
 returns-then-is_empty c =
-    let value = nothing_read c.loop-rest.invariant (is_empty _ c.loop-rest-test.ensures) (sym c.loop-rest.script.commands.ok.0 ∙ is_empty _ c.if-is_empty.ensures) in
-    rw c.faulty-then-is_empty.ensures (record { value = value; law = script_law c.args.text.now (Err (Faulty (fault_at _ _))) value })
+    let none : length c.loop-above.script ≡ 0 = search (rules, tests) in
+    let value = nothing_read c.loop-above.invariant.2 c.in-None.ensures.steps.0.0 none in
+    let is : c.into-then-is_empty.result ≡ Faulty (fault_at 1 Empty) = search rules in
+    rw is (record { value = value; law = script_law c.args.text.now (Err (Faulty (fault_at 1 Empty))) value })
 
 pub returns : goal.returns
 returns c =
-    let some : 0 < length (vec_items c.loop-rest.script.commands) = omega (arith, c.loop-rest.script.commands.ok.0, not_empty _ c.if-is_empty.ensures) in
-    let value = all_read c.loop-rest.invariant (is_empty _ c.loop-rest-test.ensures) some in
-    record { value = (value, c.loop-rest.invariant.lists); law = script_law c.args.text.now (Ok c.loop-rest.script) (value, c.loop-rest.invariant.lists) }
+    let some : 0 < length c.loop-above.script = search (rules, tests) in
+    let value = all_read c.loop-above.invariant.2 c.in-None.ensures.steps.0.0 some in
+    record { value = value; law = script_law c.args.text.now (Ok c.loop-above.script) value }
