@@ -1,12 +1,43 @@
 -- The schedule, sixteen words at a time.
-use Rattle.std.proofs.Common.{◌≡◌, ℕ, zero, suc, ◌+◌, List, [], ◌∷◌, ◌++◌, length, get_or, take, drop, sym, ap, ◌∙◌, append_assoc, add-zero, add-suc, add-one, arith}
-use Rattle.std.proofs.lemmas.List.{length-append, length-drop, get_or-append-add, take-append-le, take-append-drop, take_all, drop_more, drop_all}
+use Rattle.std.proofs.Common.{◌≡◌, ℕ, zero, suc, ◌+◌, ◌*◌, ◌^◌, ◌<◌, ◌≤◌, List, [], ◌∷◌, ◌++◌, length, get_or, take, drop, w32, sym, refl, ap, ◌∙◌, ap₂, append_assoc, add-zero, add-suc, mul-zero, mul-suc, arith}
+use Rattle.std.proofs.Math.Seq.{take-suc}
+use Rattle.std.proofs.lemmas.List.{length-append, length-drop, drop-drop, get_or-take, get_or-drop, get_or-append-add, take-append-le, take-append-drop, take_all, drop_more, drop_all}
+use Rattle.std.specs.Int.{from_be_bytes}
+use Rattle.std.specs.Simd.{first_chunks}
 use Rattle.compression.specs.Parts.{following}
 use Rattle.compression.specs.Sha256.{word, words, next_word, extended}
 
-pub words_more : (block : List ℕ) (t : ℕ) → words block (t + 1) ≡ words block t ++ word block t ∷ []
+-- a chunk of a list stands where the chunks before it end
+get_or-first_chunks : (n k t : ℕ) (xs : List ℕ) → t < k → get_or (first_chunks n k xs) t [] ≡ take n (drop (n * t) xs)
+get_or-first_chunks n zero t xs h = absurd (omega arith)
+get_or-first_chunks n (suc k) zero xs h = simp mul-zero
+get_or-first_chunks n (suc k) (suc t) xs h =
+    let i : n * suc t ≡ n + n * t = omega (arith, mul-suc n t) in
+    get_or-first_chunks n k t (drop n xs) (omega arith) ∙ ap (take n) (drop-drop (n * t) n xs ∙ ap (λ j. drop j xs) (sym i))
+
+-- the chunk of four bytes at t is word t
+pub word_of_chunk : (block : List ℕ) (fours : List (List ℕ)) (n t : ℕ) → t < n → fours ≡ first_chunks 4 n block
+    → from_be_bytes w32 (get_or fours t []) ≡ word block t
+unfolding word
+word_of_chunk block fours n t h e =
+    let at : (j : ℕ) → j < 4 → get_or (get_or fours t []) j 0 ≡ get_or block (4 * t + j) 0 =
+    λ j k.
+    ap (λ v. get_or v j 0) (ap (λ v. get_or v t []) e ∙ get_or-first_chunks 4 n t block h)
+    ∙ get_or-take 4 (drop (4 * t) block) j 0 k ∙ get_or-drop (4 * t) block j 0 in
+    let e0 : get_or (get_or fours t []) 0 0 ≡ get_or block (4 * t) 0 = at 0 (omega arith) ∙ ap (λ j. get_or block j 0) (add-zero (4 * t)) in
+    ap₂ ◌+◌
+    (ap₂ ◌+◌ (ap₂ ◌+◌ (ap (λ z. z * 2 ^ 24) e0) (ap (λ z. z * 2 ^ 16) (at 1 (omega arith)))) (ap (λ z. z * 2 ^ 8) (at 2 (omega arith))))
+    (at 3 (omega arith))
+
+words_so_far : (block ws : List ℕ) (n : ℕ) → n ≤ length ws → ((t : ℕ) → t < n → get_or ws t 0 ≡ word block t) → take n ws ≡ words block n
 unfolding words
-words_more block t = rw add-one
+words_so_far block ws zero h each = refl
+words_so_far block ws (suc n) h each =
+    take-suc ws n 0 (omega arith)
+    ∙ ap₂ (λ v w. v ++ w ∷ []) (words_so_far block ws n (omega arith) (λ t l. each t (omega arith))) (each n (omega arith))
+
+pub words_are : (block ws : List ℕ) → length ws ≡ 16 → ((t : ℕ) → t < 16 → get_or ws t 0 ≡ word block t) → ws ≡ words block 16
+words_are block ws h each = sym (take_all 16 ws (omega arith)) ∙ words_so_far block ws 16 (omega arith) each
 
 -- a list by its elements
 abbrev from : List ℕ → ℕ → ℕ → List ℕ

@@ -1,5 +1,7 @@
--- One block, and one block more.
-use Rattle.std.proofs.Common.{◌≡◌, ℕ, ◌+◌, ◌-◌, ◌*◌, List, length, take, drop, ap, ◌∙◌, add-one, arith}
+-- One block, and the blocks of a message.
+use Rattle.std.proofs.Common.{◌≡◌, ℕ, zero, suc, ◌+◌, ◌*◌, List, length, take, drop, fold, sym, refl, ap, ◌∙◌, ap₂, arith}
+use Rattle.std.proofs.lemmas.List.{drop-drop}
+use Rattle.std.specs.Simd.{first_chunks}
 use Rattle.compression.specs.declared.state.State.{State}
 use Rattle.compression.specs.Parts.{following, rounds_from}
 use Rattle.compression.specs.Sha256.{words, schedule, sum, compressed, processed}
@@ -18,9 +20,15 @@ compressed_is block w0 w1 w2 w3 s s0 s1 s2 s3 h e0 e1 e2 e3 f0 f1 f2 f3 =
     let all = by_fours w0 w1 w2 w3 h e1 e2 e3 in
     cc
 
-pub processed_more : (m : List ℕ) (n : ℕ) (s t u : State) → t ≡ processed m n s
-    → u ≡ compressed t (take (64 * n + 64 - 64 * n) (drop (64 * n) m)) → u ≡ processed m (n + 1) s
+-- the blocks one after the other, from the first on
+first_block : (m : List ℕ) (n : ℕ) (s : State) → processed m (suc n) s ≡ processed (drop 64 m) n (compressed s (take 64 m))
 unfolding processed
-processed_more m n s t u e f =
-    let k : 64 * n + 64 - 64 * n ≡ 64 = omega arith in
-    rw add-one cc
+first_block m zero s = refl
+first_block m (suc n) s =
+    let i : 64 * suc n ≡ 64 + 64 * n = omega arith in
+    ap₂ compressed (first_block m n s) (ap (take 64) (ap (λ k. drop k m) i ∙ sym (drop-drop (64 * n) 64 m)))
+
+pub folded : (m : List ℕ) (n : ℕ) (s : State) → fold compressed s (first_chunks 64 n m) ≡ processed m n s
+unfolding processed
+folded m zero s = refl
+folded m (suc n) s = folded (drop 64 m) n (compressed s (take 64 m)) ∙ sym (first_block m n s)

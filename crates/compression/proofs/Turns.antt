@@ -5,6 +5,10 @@ use Rattle.compression.specs.declared.state.State.{State}
 use Rattle.compression.specs.Parts.{rounds_from}
 use Rattle.compression.specs.Sha256.{round_constants, round, rounds}
 
+-- a round with a constant that is known by its place
+pub turn : (s r : State) (t k w : ℕ) → k ≡ get_or round_constants t 0 → r ≡ round s k w → r ≡ round s (get_or round_constants t 0) w
+turn s r t k w e f = f ∙ ap (λ j. round s j w) e
+
 module _ (t : ℕ) (s s0 s1 s2 s3 s4 s5 s6 s7 s8 s9 s10 s11 s12 s13 s14 s15 : State) (w0 w1 w2 w3 w4 w5 w6 w7 w8 w9 w10 w11 w12 w13 w14 w15 : ℕ) where
   pub sixteen_turns : s0 ≡ round s (get_or round_constants t 0) w0 → s1 ≡ round s0 (get_or round_constants (t + 1) 0) w1 → s2 ≡ round s1 (get_or round_constants (t + 2) 0) w2
       → s3 ≡ round s2 (get_or round_constants (t + 3) 0) w3 → s4 ≡ round s3 (get_or round_constants (t + 4) 0) w4 → s5 ≡ round s4 (get_or round_constants (t + 5) 0) w5

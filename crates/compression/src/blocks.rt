@@ -6,6 +6,8 @@ use crate::rounds::sixteen_rounds;
 use crate::schedule::first_words;
 use crate::state::State;
 
+// Field by field, since the words have the names that the RFC gives them.
+#[tactic(auto, unfolding(crate::specs::Sha256::sum, crate::specs::Sha256::add))]
 fn add(s: State, t: State) -> State
     ensures { result ≡ sum s t }
 {
@@ -22,8 +24,7 @@ fn add(s: State, t: State) -> State
 }
 
 // The state after one block more.
-fn compress(s: State, block: &[u8]) -> State
-    requires { length block.now ≡ 64 }
+fn compress(s: State, block: &[u8; 64]) -> State
     ensures { result ≡ compressed s block.now }
 {
     let (s0, w0) = sixteen_rounds::<0>(s, &first_words(block));
@@ -37,9 +38,6 @@ fn compress(s: State, block: &[u8]) -> State
 pub fn process(start: State, bytes: &[u8]) -> State
     ensures { result ≡ processed bytes.now (length bytes.now / 64) start }
 {
-    let mut s = start;
-    for i in 0..bytes.len() / 64 {
-        s = compress(s, &bytes[64 * i..64 * i + 64]);
-    }
-    s
+    let (blocks, _) = bytes.as_chunks::<64>();
+    blocks.iter().fold(start, |s, block| compress(s, block))
 }

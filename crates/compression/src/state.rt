@@ -1,5 +1,5 @@
 // The eight words that each block of a message changes; within a block, the working variables.
-#[derive(Clone, Copy)]
+#[derive(Clone, Copy, Debug, PartialEq, Eq)]
 pub struct State {
     pub a: u32,
     pub b: u32,

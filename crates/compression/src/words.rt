@@ -1,6 +1,7 @@
 // The functions on words, the round constants and the first state.
-ghost use Rattle.std.specs.Prelude.{◌≡◌, ◌<◌, slice_index};
-ghost use Rattle.compression.specs.Sha256.{ch, maj, bsig0, bsig1, ssig0, ssig1, round_constants, initial_hash};
+ghost use Rattle.std.specs.Prelude.{◌≡◌, ◌<◌, bit_xor, slice_index};
+ghost use Rattle.std.specs.Int.{rotate_right, w32};
+ghost use Rattle.compression.specs.Sha256.{shr, ch, maj, round_constants, initial_hash};
 
 use crate::state::State;
 
@@ -18,28 +19,20 @@ pub(crate) fn majority(x: u32, y: u32, z: u32) -> u32
     ((x ^ y) & (y ^ z)) ^ y
 }
 
-pub(crate) fn big_sigma0(x: u32) -> u32
-    ensures { result ≡ bsig0 x }
+// The big sigma functions: rotations by `A`, `B` and `C` places.
+pub(crate) fn big_sigma<const A: u32, const B: u32, const C: u32>(x: u32) -> u32
+    ensures { result ≡ bit_xor (bit_xor (rotate_right w32 x A) (rotate_right w32 x B)) (rotate_right w32 x C) }
 {
-    x.rotate_right(2) ^ x.rotate_right(13) ^ x.rotate_right(22)
+    x.rotate_right(A) ^ x.rotate_right(B) ^ x.rotate_right(C)
 }
 
-pub(crate) fn big_sigma1(x: u32) -> u32
-    ensures { result ≡ bsig1 x }
+// The small sigma functions: rotations by `A` and `B` places, and a shift by `C`.
+#[tactic(auto, unfolding(crate::specs::Sha256::shr))]
+pub(crate) fn small_sigma<const A: u32, const B: u32, const C: u32>(x: u32) -> u32
+    requires { C < 32 }
+    ensures { result ≡ bit_xor (bit_xor (rotate_right w32 x A) (rotate_right w32 x B)) (shr C x) }
 {
-    x.rotate_right(6) ^ x.rotate_right(11) ^ x.rotate_right(25)
-}
-
-pub(crate) fn small_sigma0(x: u32) -> u32
-    ensures { result ≡ ssig0 x }
-{
-    x.rotate_right(7) ^ x.rotate_right(18) ^ (x >> 3)
-}
-
-pub(crate) fn small_sigma1(x: u32) -> u32
-    ensures { result ≡ ssig1 x }
-{
-    x.rotate_right(17) ^ x.rotate_right(19) ^ (x >> 10)
+    x.rotate_right(A) ^ x.rotate_right(B) ^ (x >> C)
 }
 
 static ROUND_CONSTANTS: [u32; 64] = [
@@ -53,6 +46,7 @@ static ROUND_CONSTANTS: [u32; 64] = [
     0x748f82ee, 0x78a5636f, 0x84c87814, 0x8cc70208, 0x90befffa, 0xa4506ceb, 0xbef9a3f7, 0xc67178f2,
 ];
 
+#[tactic(auto, unfolding(crate::specs::Sha256::round_constants))]
 pub(crate) fn round_constant(t: usize) -> u32
     requires { t < 64 }
     ensures { result ≡ slice_index round_constants t }
@@ -61,6 +55,7 @@ pub(crate) fn round_constant(t: usize) -> u32
 }
 
 // The state before the first block.
+#[tactic(auto, unfolding(crate::specs::Sha256::initial_hash))]
 pub fn initial() -> State
     ensures { result ≡ initial_hash }
 {

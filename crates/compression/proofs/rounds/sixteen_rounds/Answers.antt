@@ -1,7 +1,7 @@
 use Rattle.std.proofs.Common.{◌≡◌, length, sym, ap, ◌∙◌, rules}
 use Rattle.compression.specs.Parts.{following, rounds_from}
 use Rattle.compression.proofs.Schedules.{sixteen, written}
-use Rattle.compression.proofs.Turns.{sixteen_turns}
+use Rattle.compression.proofs.Turns.{turn, sixteen_turns}
 use Rattle.compression.proofs.rounds.sixteen_rounds.Goals as goal
 
 pub returns : goal.returns
@@ -12,10 +12,10 @@ returns g c =
     record {
       state =
           sixteen_turns g.row.T c.args.s _ _ _ _ _ _ _ _ _ _ _ _ _ _ _ _ _ _ _ _ _ _ _ _ _ _ _ _ _ _ _ _
-          c.step-w0.ensures.state c.step-w1.ensures.state c.step-w2.ensures.state c.step-w3.ensures.state
-          c.step-w4.ensures.state c.step-w5.ensures.state c.step-w6.ensures.state c.step-w7.ensures.state
-          c.step-w8.ensures.state c.step-w9.ensures.state c.step-w10.ensures.state c.step-w11.ensures.state
-          c.step-w12.ensures.state c.step-w13.ensures.state c.step-w14.ensures.state c.step-w15.ensures.state
+          (turn _ _ _ _ _ c.round_constant.ensures c.step-w0.ensures.state) (turn _ _ _ _ _ c.round_constant-2.ensures c.step-w1.ensures.state) (turn _ _ _ _ _ c.round_constant-3.ensures c.step-w2.ensures.state) (turn _ _ _ _ _ c.round_constant-4.ensures c.step-w3.ensures.state)
+          (turn _ _ _ _ _ c.round_constant-5.ensures c.step-w4.ensures.state) (turn _ _ _ _ _ c.round_constant-6.ensures c.step-w5.ensures.state) (turn _ _ _ _ _ c.round_constant-7.ensures c.step-w6.ensures.state) (turn _ _ _ _ _ c.round_constant-8.ensures c.step-w7.ensures.state)
+          (turn _ _ _ _ _ c.round_constant-9.ensures c.step-w8.ensures.state) (turn _ _ _ _ _ c.round_constant-10.ensures c.step-w9.ensures.state) (turn _ _ _ _ _ c.round_constant-11.ensures c.step-w10.ensures.state) (turn _ _ _ _ _ c.round_constant-12.ensures c.step-w11.ensures.state)
+          (turn _ _ _ _ _ c.round_constant-13.ensures c.step-w12.ensures.state) (turn _ _ _ _ _ c.round_constant-14.ensures c.step-w13.ensures.state) (turn _ _ _ _ _ c.round_constant-15.ensures c.step-w14.ensures.state) (turn _ _ _ _ _ c.round_constant-16.ensures c.step-w15.ensures.state)
           ∙ ap (λ v. rounds_from g.row.T v 16 c.args.s) out;
       words =
           written _ _ _ _ _ _ _ _ _ _ _ _ _ _ _ _ _ _ _ _ _ _ _ _ _ _ _ _ _ _ _ _

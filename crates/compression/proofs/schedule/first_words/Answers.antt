@@ -1,27 +1,14 @@
-use Rattle.std.proofs.Common.{◌≡◌, refl, ◌∙◌, arith}
-use Rattle.std.proofs.lemmas.List.{take_more_set, take_all, length-set}
-use Rattle.compression.proofs.Schedules.{words_more}
-use Rattle.compression.specs.Sha256.{words}
+use Rattle.std.proofs.Common.{ℕ, ◌<◌, ◌/◌, [], length, get_or, w32, ◌∙◌, rules, arith}
+use Rattle.std.specs.Int.{from_be_bytes}
+use Rattle.compression.proofs.Filled.{filled}
+use Rattle.compression.proofs.Schedules.{word_of_chunk, words_are}
 use Rattle.compression.proofs.schedule.first_words.Goals as goal
-
-pub loop-t-init : goal.loop-t-init
-unfolding words
-loop-t-init c = (refl, refl)
-
-pub loop-t-preserved : goal.loop-t-preserved
-loop-t-preserved c =
-    let w = c.loop-t.w in
-    let t = c.loop-t.t in
-    let long = c.loop-t.invariant.0 in
-    let set = take_more_set w t c.block_word.result (omega arith) in
-    let more = words_more c.args.block.now t in
-    let so_far = c.loop-t.invariant.1 in
-    (length-set w t c.block_word.result ∙ long, cc)
 
 pub returns : goal.returns
 returns c =
-    let long = c.loop-t.invariant.0 in
-    let so_far = c.loop-t.invariant.1 in
-    let end : c.loop-t.t ≡ 16 = omega arith in
-    let all = take_all c.loop-t.t c.loop-t.w (omega arith) in
-    cc
+    let fours = c.as_chunks.result.0.now in
+    let items = c.from_fn.ensures.items in
+    let enough : (t : ℕ) → t < 16 → t < length c.args.block.now / 4 = λ t h. omega arith in
+    words_are c.args.block.now c.from_fn.result items.long
+    (λ t h. filled _ _ (λ i. from_be_bytes w32 (get_or fours i [])) 16 (λ i y q l k. search rules) c.from_fn.result items t 0 h
+    ∙ word_of_chunk c.args.block.now fours _ t (enough t h) c.as_chunks.ensures.front)
