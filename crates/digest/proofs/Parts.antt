@@ -1,6 +1,6 @@
 -- What a hasher has taken, part by part.
-use Rattle.std.proofs.Common.{◌≡◌, ℕ, ◌+◌, ◌-◌, ◌*◌, ◌/◌, ◌%◌, ◌<◌, ◌≤◌, List, ◌++◌, length, take, drop, sym, ap, ◌∙◌, ap₂, append_assoc, arith}
-use Rattle.std.proofs.lemmas.List.{length-append, length-take, length-drop, drop-append-le, take_at, take_all, take-append-drop, take_rest, drop_at, drop_all, drop-drop}
+use Rattle.std.proofs.Common.{◌≡◌, ℕ, ◌+◌, ◌-◌, ◌*◌, ◌/◌, ◌%◌, ◌<◌, ◌≤◌, List, ◌++◌, length, take, drop, sym, ap, ◌∙◌, subst, ap₂, append_assoc, arith}
+use Rattle.std.proofs.lemmas.List.{length-append, length-take, length-drop, drop-append-le, take_at, take_all, take-append-drop, drop_at, drop_all, drop-drop}
 use Rattle.compression.specs.declared.state.State.{State}
 use Rattle.compression.specs.Sha256.{initial_hash, processed}
 use Rattle.digest.specs.Taken.{After}
@@ -78,35 +78,49 @@ completed s s1 n old new m part lo h t e es =
       rest = ap (λ k. take k new) eu ∙ sym (drop_all (64 * (length (m ++ part) / 64)) (m ++ part) (omega arith));
     }
 
--- a part that begins with a block
-pub processes : (s s1 : State) (n : ℕ) (old new m part rest : List ℕ) → length old ≡ 64 → n % 64 ≡ 0 → After m s old n
-    → rest ≡ drop (length part - length part % 64) part
-    → new ≡ take 0 old ++ (rest ++ drop (0 + length rest) old)
+-- a part that begins with a block: `left` are the bytes after its whole blocks
+pub processes : (s s1 : State) (n : ℕ) (old new m part left : List ℕ) → length old ≡ 64 → n % 64 ≡ 0 → After m s old n
+    → left ≡ drop (length part / 64 * 64) part
+    → new ≡ take 0 old ++ (left ++ drop (0 + length left) old)
     → s1 ≡ processed part (length part / 64) s
     → After (m ++ part) s1 new (n + length part)
-processes s s1 n old new m part rest lo h t er e es =
+processes s s1 n old new m part left lo h t er e es =
     let q = length m / 64 in
     let k = length part / 64 in
-    let w = length part - length part % 64 in
+    let w = k * 64 in
     let hm = t.long in
     let l : length (m ++ part) ≡ length m + length part = length-append m part in
     let lm : length m ≡ 64 * q = omega arith in
-    let lr : length rest ≡ length part % 64 = ap length er ∙ length-drop w part ∙ omega arith in
+    let lr : length left ≡ length part % 64 = ap length er ∙ length-drop w part ∙ omega arith in
     let eq : length (m ++ part) / 64 ≡ q + k = omega arith in
-    let eu : length (m ++ part) % 64 ≡ 0 + length rest = omega arith in
+    let eu : length (m ++ part) % 64 ≡ 0 + length left = omega arith in
     let i : 64 * (q + k) ≡ 64 * q + w = omega arith in
-    let ed : drop (64 * (q + k)) (m ++ part) ≡ rest =
+    let ed : drop (64 * (q + k)) (m ++ part) ≡ left =
     ap (λ j. drop j (m ++ part)) i ∙ sym (drop-drop w (64 * q) (m ++ part)) ∙ ap (drop w) (drop_at m part (64 * q) lm) ∙ sym er in
     record {
       long = omega arith;
       whole = es ∙ ap (processed part k) t.whole ∙ sym (back m part q k initial_hash lm) ∙ ap (λ j. processed (m ++ part) j initial_hash) (sym eq);
       rest =
-          ap (λ j. take j new) eu ∙ written 0 old new rest (omega arith) e ∙ sym ed ∙ ap (λ j. drop (64 * j) (m ++ part)) (sym eq);
+          ap (λ j. take j new) eu ∙ written 0 old new left (omega arith) e ∙ sym ed ∙ ap (λ j. drop (64 * j) (m ++ part)) (sym eq);
     }
 
--- a part in two
-pub in_two : (m part : List ℕ) (g : ℕ) → (m ++ take (g - 0) part) ++ take (length part - g) (drop g part) ≡ m ++ part
-in_two m part g =
-    let i : g - 0 ≡ g = omega arith in
-    ap₂ (λ k v. (m ++ take k part) ++ v) i (take_rest part g) ∙ append_assoc m (take g part) (drop g part)
-    ∙ ap (λ v. m ++ v) (take-append-drop g part)
+-- a part whose first bytes come just to the end of a block, and the rest of it
+pub taken : (s s1 s2 : State) (n used : ℕ) (old full new m part end rest left : List ℕ) → length old ≡ 64 → used ≡ n % 64
+    → end ≡ take (64 - used) part → rest ≡ drop (64 - used) part → length end ≡ 64 - used
+    → After m s old n
+    → full ≡ take used old ++ (end ++ drop (used + length end) old)
+    → s1 ≡ processed full (length full / 64) s
+    → left ≡ drop (length rest / 64 * 64) rest
+    → new ≡ take 0 full ++ (left ++ drop (0 + length left) full)
+    → s2 ≡ processed rest (length rest / 64) s1
+    → After (m ++ part) s2 new (n + length part)
+taken s s1 s2 n used old full new m part end rest left lo eu ee er le t ef es el en es2 =
+    let lf : length full ≡ 64 = ap length ef ∙ simp (length-append, length-take, length-drop) (omega arith) in
+    let one = completed s s1 n old full m end lo (omega arith) t (ef ∙ ap (λ k. take k old ++ (end ++ drop (k + length end) old)) eu) es in
+    let both = processes s1 s2 (n + length end) full new (m ++ end) rest left lf (omega arith) one el en es2 in
+    let ep : end ++ rest ≡ part = ap₂ ◌++◌ ee er ∙ take-append-drop (64 - used) part in
+    let lp = ap length ep in
+    let l = length-append end rest in
+    let count : n + length end + length rest ≡ n + length part = omega arith in
+    let whole : (m ++ end) ++ rest ≡ m ++ part = append_assoc m end rest ∙ ap (λ v. m ++ v) ep in
+    subst (λ v. After v s2 new (n + length part)) whole (subst (λ k. After ((m ++ end) ++ rest) s2 new k) count both)

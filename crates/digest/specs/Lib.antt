@@ -1,4 +1,5 @@
 pub mod Closing
 pub mod Hmac
 pub mod Keyed
+pub mod Lengths
 pub mod Taken

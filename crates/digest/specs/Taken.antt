@@ -1,9 +1,10 @@
 -- What a hasher has taken. Assumes nothing.
-use Rattle.std.specs.Prelude.{◌≡◌, ℕ, ◌*◌, ◌/◌, ◌%◌, ◌<◌, ◌≤◌, List, ◌++◌, length, take, drop, Ok, Err, Result}
+use Rattle.std.specs.Prelude.{◌≡◌, ℕ, ◌*◌, ◌/◌, ◌%◌, ◌<◌, ◌≤◌, List, ◌++◌, flat_map, length, take, drop, Ok, Err, Result}
+use denote.Ref.{Bor}
 use Rattle.compression.specs.declared.state.State.{State}
 use Rattle.compression.specs.Sha256.{initial_hash, processed}
 use Rattle.digest.specs.declared.hasher.Hasher.{Hasher}
-use Rattle.digest.specs.declared.hasher.TooLong.{TooLong}
+use Rattle.digest.specs.declared.incremental.TooLong.{TooLong}
 
 -- After the message m: the state is that after the whole blocks of m, and the bytes after these are pending.
 pub record After (m : List ℕ) (state : State) (pending : List ℕ) (count : ℕ) : Type 0 where
@@ -24,3 +25,13 @@ Takes g part h = (m : List ℕ) → Took g m → Took h (m ++ part)
 abbrev pub Updated : {H : Type 0} (Holds : H → List ℕ → Type 0) (limit : ℕ) → H → List ℕ → Result Unit TooLong → H → Type 0
 Updated Holds limit g part (Ok _) h = (m : List ℕ) → Holds g m → (length (m ++ part) < limit) × Holds h (m ++ part)
 Updated Holds limit g part (Err _) h = (h ≡ g) × ((m : List ℕ) → Holds g m → limit ≤ length (m ++ part))
+
+-- the message of which these are the parts
+abbrev pub joined : List (Bor (List ℕ)) → List ℕ
+joined parts = flat_map (λ p. p.now) parts
+
+-- The parts after what was taken before: all of it comes to r, or they are refused, exactly if the message would get too long.
+abbrev pub InParts : {H : Type 0} (Holds : H → List ℕ → Type 0) (value : List ℕ → List ℕ) (limit : ℕ) → H → List (Bor (List ℕ))
+    → Result (List ℕ) TooLong → Type 0
+InParts Holds value limit g parts (Ok r) = (m : List ℕ) → Holds g m → (length (m ++ joined parts) < limit) × (r ≡ value (m ++ joined parts))
+InParts Holds value limit g parts (Err _) = (m : List ℕ) → Holds g m → limit ≤ length (m ++ joined parts)

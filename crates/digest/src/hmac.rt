@@ -4,17 +4,18 @@ ghost use Rattle.compression.specs.Sha256.{initial_hash, processed};
 ghost use Rattle.digest.specs.Hmac.{key_block, hmac as tag};
 ghost use Rattle.digest.specs.Keyed.{Keyed};
 ghost use Rattle.digest.specs.Taken.{Updated};
+ghost use Rattle.digest.specs.Lengths.{length-keyed};
 
-use crate::closing::{close, put};
-use crate::hasher::sums::sha256;
-use crate::hasher::{Hasher, TooLong};
+use crate::closing::{close, put, sha256};
+use crate::hasher::Hasher;
+use crate::incremental::{Incremental, TooLong};
 use compression::{State, initial, process};
 
 const INNER_PAD: u8 = 0x36;
 
 const OUTER_PAD: u8 = 0x5c;
 
-// An HMAC of a message that comes in parts.
+// An HMAC of a message that comes in parts. It has no `Debug` and no `==`, as a hasher.
 #[derive(Clone, Copy)]
 pub struct Hmac {
     inner: Hasher,
@@ -22,6 +23,7 @@ pub struct Hmac {
 }
 
 // The bytes of a key, or the digest of one that is longer than a block, and zeros after them.
+#[tactic(auto, using(crate::proofs::Keys::long_key, crate::proofs::Keys::short_key))]
 fn key_block(key: &[u8]) -> [u8; 64]
     ensures { result ≡ key_block key.now }
 {
@@ -37,11 +39,7 @@ fn key_block(key: &[u8]) -> [u8; 64]
 fn mask(block: [u8; 64], pad: u8) -> [u8; 64]
     ensures { result ≡ map (λ b. bit_xor b pad) block }
 {
-    let mut masked = block;
-    for i in 0..64 {
-        masked[i] = block[i] ^ pad;
-    }
-    masked
+    block.map(|b| b ^ pad)
 }
 
 // The state after the key's block, each byte of it XORed with a pad.
@@ -64,16 +62,28 @@ impl Hmac {
             outer: after_key(block, OUTER_PAD),
         }
     }
+}
+
+impl Incremental for Hmac {
+    ghost Key = { List ℕ };
+
+    ghost holds = { Keyed };
+
+    ghost value = { tag };
+
+    ghost limit = { 2 ^ 61 - 64 };
+
+    ghost short = { length-keyed };
 
     // Takes a part more of the message, or refuses it if the message would get too long.
-    pub fn update(&mut self, part: &[u8]) -> Result<(), TooLong>
+    fn update(&mut self, part: &[u8]) -> Result<(), TooLong>
         ensures { (k : List ℕ) → Updated (Keyed k) (2 ^ 61 - 64) self.old part.now result self.new }
     {
         self.inner.update(part)
     }
 
     // The tag of what was taken.
-    pub fn finish(self) -> [u8; 32]
+    fn finish(self) -> [u8; 32]
         ensures { (k m : List ℕ) → Keyed k self m → result ≡ tag k m }
     {
         close(self.outer, 64, &self.inner.finish())

@@ -4,7 +4,9 @@
 mod closing;
 mod hasher;
 mod hmac;
+mod incremental;
 
-pub use hasher::sums::sha256;
-pub use hasher::{Hasher, TooLong};
+pub use closing::sha256;
+pub use hasher::Hasher;
 pub use hmac::{Hmac, hmac_sha256};
+pub use incremental::{Incremental, TooLong, in_parts};

@@ -10,14 +10,14 @@ use digest::sha256;
 //
 //     bool dozhebul_sha256(const uint8_t *message, size_t len, uint8_t *out, size_t room);
 //
-// The contract holds where `message` has `len` bytes and `out` has `room`, and the two do not overlap.
+// The answer stays a `bool`, which C has. The contract holds where `message` has `len` bytes and `out` has `room`, and the two do not overlap.
 #[unsafe(no_mangle)]
 pub extern "C" fn dozhebul_sha256(message: &[u8], out: &mut [u8]) -> bool
     ensures { Written (digest message.now) out.old result out.new }
 {
-    if out.len() < 32 {
+    let Some(first) = out.first_chunk_mut::<32>() else {
         return false;
-    }
-    out[0..32].copy_from_slice(&sha256(message));
+    };
+    *first = sha256(message);
     true
 }

@@ -1,7 +1,9 @@
-use mathlib.Core.Path.{refl}
-use native.Mathlib.Omega.{arith}
-use Rattle.digest.proofs.Messages.{length-digest}
+use Rattle.std.proofs.Common.{refl, arith}
+use Rattle.digest.specs.Lengths.{length-digest}
 use Rattle.digest_c.proofs.dozhebul_sha256.Goals as goal
 
-pub returns-then-out-lt32 : goal.returns-then-out-lt32
-returns-then-out-lt32 c = let long = length-digest c.args.message.now in (omega arith, refl)
+pub returns-in_default : goal.returns-in_default
+returns-in_default c =
+    let long = length-digest c.args.message.now in
+    let short = c.in_default.ensures.cases in
+    (omega arith, refl)

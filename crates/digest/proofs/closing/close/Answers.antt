@@ -1,17 +1,21 @@
-use Rattle.std.proofs.Common.{◌≡◌, ◌-◌, ◌%◌, length, take, drop, ◌∙◌, arith}
-use Rattle.std.proofs.lemmas.List.{length-take, length-drop}
-use Rattle.digest.proofs.Messages.{closes}
+use Rattle.std.proofs.Common.{◌∙◌, ap, arith}
+use Rattle.compression.specs.Sha256.{output}
+use Rattle.digest.proofs.Messages.{one_block, two_blocks, closes}
 use Rattle.digest.proofs.closing.close.Goals as goal
-
-pub last_blocks-last-requires : goal.last_blocks-last-requires
-last_blocks-last-requires c =
-    let n = length c.args.rest.now in
-    let left : length (take (n - (n - n % 64)) (drop (n - n % 64) c.args.rest.now)) ≡ n % 64 =
-    simp (length-take, length-drop) (omega arith) in
-    (omega arith, c.padded_len-end.ensures.few)
+use Rattle.digest.proofs.closing.close.Goals.{then-left-lt56, else-left-lt56}
 
 pub returns : goal.returns
 returns c = λ first n count whole state.
+    let rest = c.args.rest.now in
+    let left = c.as_chunks.result.1.now in
     c.to_bytes.ensures
-    ∙ closes first c.args.rest.now _ n _ _ c.args.state _ _ whole state (omega arith) c.padded_len-end.ensures.value
-    c.last_blocks-last.ensures c.process.ensures c.process-2.ensures
+    ∙ elim c.if-left-lt56.branch [
+      | then-left-lt56 w ↦
+          ap output w.last-is
+          ∙ closes first rest left _ n 64 _ _ _ _ whole state (omega arith) c.as_chunks.ensures.back
+          (one_block _ (omega arith)) w.last_blocks.ensures c.process-whole.ensures w.process-last.ensures
+      | else-left-lt56 w ↦
+          ap output w.last-is
+          ∙ closes first rest left _ n 128 _ _ _ _ whole state (omega arith) c.as_chunks.ensures.back
+          (two_blocks _ (omega arith) (omega arith)) w.last_blocks-else-left-lt56.ensures c.process-whole.ensures w.process-last-else-left-lt56.ensures
+    ]

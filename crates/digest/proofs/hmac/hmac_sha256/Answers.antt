@@ -1,7 +1,8 @@
 use Rattle.std.proofs.Common.{◌++◌, ap, ◌∙◌}
 use Rattle.compression.specs.Sha256.{digest}
 use Rattle.digest.specs.Hmac.{masked, ipad, opad, hmac}
-use Rattle.digest.proofs.Keys.{length-masked, after_key}
+use Rattle.digest.specs.Lengths.{length-masked}
+use Rattle.digest.proofs.Keys.{after_key}
 use Rattle.digest.proofs.hmac.hmac_sha256.Goals as goal
 
 pub returns : goal.returns

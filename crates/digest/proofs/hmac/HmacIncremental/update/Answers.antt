@@ -1,5 +1,5 @@
 use Rattle.digest.proofs.Keys.{updates}
-use Rattle.digest.proofs.hmac.Hmac.update.Goals as goal
+use Rattle.digest.proofs.hmac.HmacIncremental.update.Goals as goal
 
 pub returns : goal.returns
 returns c = λ k.

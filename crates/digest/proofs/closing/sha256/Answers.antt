@@ -1,6 +1,6 @@
 use Rattle.std.proofs.Common.{[], refl}
 use Rattle.compression.specs.Sha256.{processed}
-use Rattle.digest.proofs.hasher.sums.sha256.Goals as goal
+use Rattle.digest.proofs.closing.sha256.Goals as goal
 
 pub returns : goal.returns
 unfolding processed

@@ -1,8 +1,8 @@
 use Rattle.std.proofs.Common.{◌++◌, ap, ◌∙◌}
 use Rattle.compression.specs.Sha256.{digest}
 use Rattle.digest.specs.Hmac.{masked, opad, hmac}
-use Rattle.digest.proofs.Keys.{length-masked}
-use Rattle.digest.proofs.hmac.Hmac.finish.Goals as goal
+use Rattle.digest.specs.Lengths.{length-masked}
+use Rattle.digest.proofs.hmac.HmacIncremental.finish.Goals as goal
 
 pub returns : goal.returns
 unfolding hmac
