@@ -1,7 +1,7 @@
 -- Byte strings that are compared by what differs in any of their bytes.
-use Rattle.std.proofs.Common.{◌≡◌, ℕ, ◌+◌, ◌<◌, Bool, false, eqb, List, length, get_or, take, Decides, sym, refl, ap, ◌∙◌, ap₂, arith}
+use Rattle.std.proofs.Common.{◌≡◌, ℕ, Bool, false, eqb, List, [], ◌∷◌, length, fold, Decides, sym, refl, ap, ◌∙◌, ap₂, arith}
 use lib.Bits.{bit_or, bit_xor, or_add_and, xor_add_and, and_le_l, and_le_r, xor_self}
-use Rattle.std.proofs.lemmas.List.{take_more_same, take_all}
+use Rattle.std.specs.List.{zip}
 use Rattle.std.proofs.lemmas.Bool.{eqb-true, eq-eqb, both_ways}
 use Rattle.std.proofs.lemmas.Slice.Eq.{bytes_eq-Decides}
 use Rattle.std.proofs.lemmas.Bool.Decides.{same_from_decides}
@@ -23,31 +23,42 @@ xor_none a b e =
     let r = and_le_r a b in
     omega arith
 
--- the difference is 0 exactly if the lists are the same so far
-abbrev pub SoFar : ℕ → List ℕ → List ℕ → ℕ → Type 0
-SoFar d xs ys i = (d ≡ 0 → take i xs ≡ take i ys) × (xs ≡ ys → d ≡ 0)
+-- what differs so far, and in one pair of bytes more
+abbrev pub differs : ℕ → ℕ × ℕ → ℕ
+differs d p = bit_or d (bit_xor p.0 p.1)
 
-pub so_far_more : (d i : ℕ) (xs ys : List ℕ) → length xs ≡ length ys → i < length xs → SoFar d xs ys i
-    → SoFar (bit_or d (bit_xor (get_or xs i 0) (get_or ys i 0))) xs ys (i + 1)
-so_far_more d i xs ys l h s = (
-  λ e.
-      let both = or_none d (bit_xor (get_or xs i 0) (get_or ys i 0)) e in
-      take_more_same xs ys i 0 h (omega arith) (s.0 both.0) (xor_none (get_or xs i 0) (get_or ys i 0) both.1),
-  λ e. ap₂ bit_or (s.1 e) (ap (λ z. bit_xor (get_or xs i 0) (get_or z i 0)) (sym e) ∙ xor_self (get_or xs i 0)),
-)
+same_if_none : (d : ℕ) (xs ys : List ℕ) → length xs ≡ length ys → fold differs d (zip xs ys) ≡ 0 → (d ≡ 0) × (xs ≡ ys)
+same_if_none d [] [] l e = (e, refl)
+same_if_none d [] (y ∷ ys) l e = absurd (omega arith)
+same_if_none d (x ∷ xs) [] l e = absurd (omega arith)
+same_if_none d (x ∷ xs) (y ∷ ys) l e =
+    let rest = same_if_none (differs d (x, y)) xs ys (omega arith) e in
+    let both = or_none d (bit_xor x y) rest.0 in
+    (both.0, ap₂ ◌∷◌ (xor_none x y both.1) rest.1)
 
-so_far_all : (d i : ℕ) (xs ys : List ℕ) → length xs ≡ length ys → i ≡ length xs → SoFar d xs ys i → (d ≡ 0 → xs ≡ ys) × (xs ≡ ys → d ≡ 0)
-so_far_all d i xs ys l h s =
-    (λ e. sym (take_all i xs (omega arith)) ∙ s.0 e ∙ take_all i ys (omega arith), s.1)
+none_if_same : (xs : List ℕ) → fold differs 0 (zip xs xs) ≡ 0
+none_if_same [] = refl
+none_if_same (x ∷ xs) =
+    ap (λ z. fold differs (bit_or 0 z) (zip xs xs)) (xor_self x) ∙ none_if_same xs
 
 -- the answers of the comparison: none where the lengths differ, else by the difference
-pub other_lengths : (xs ys : List ℕ) → (length xs ≡ length ys → ⊥) → Decides false (xs ≡ ys)
+other_lengths : (xs ys : List ℕ) → (length xs ≡ length ys → ⊥) → Decides false (xs ≡ ys)
 other_lengths xs ys h = (λ e. absurd (both_ways false refl e), λ e. absurd (h (ap length e)))
 
-pub by_difference : (d i : ℕ) (xs ys : List ℕ) → length xs ≡ length ys → i ≡ length xs → SoFar d xs ys i → Decides (eqb d 0) (xs ≡ ys)
-by_difference d i xs ys l h s =
-    let all = so_far_all d i xs ys l h s in
-    (λ e. all.0 (eqb-true d 0 e), λ e. eq-eqb d 0 (all.1 e))
+by_difference : (d : ℕ) (xs ys : List ℕ) → length xs ≡ length ys → d ≡ fold differs 0 (zip xs ys) → Decides (eqb d 0) (xs ≡ ys)
+by_difference d xs ys l h =
+    (λ e. (same_if_none 0 xs ys l (sym h ∙ eqb-true d 0 e)).1, λ e. eq-eqb d 0 (h ∙ ap (λ z. fold differs 0 (zip xs z)) (sym e) ∙ none_if_same xs))
 
-pub told : (r : Bool) (xs ys : List ℕ) → Decides r (xs ≡ ys) → r ≡ bytes_eq xs ys
-told r xs ys d = same_from_decides r (bytes_eq xs ys) d (bytes_eq-Decides xs ys)
+-- both clauses
+pub record Told (r : Bool) (xs ys : List ℕ) : Type 0 where
+  pub value : r ≡ bytes_eq xs ys
+  pub equal : Decides r (xs ≡ ys)
+
+told : (r : Bool) (xs ys : List ℕ) → Decides r (xs ≡ ys) → Told r xs ys
+told r xs ys d = record { value = same_from_decides r (bytes_eq xs ys) d (bytes_eq-Decides xs ys); equal = d }
+
+pub told_apart : (xs ys : List ℕ) → (length xs ≡ length ys → ⊥) → Told false xs ys
+told_apart xs ys h = told false xs ys (other_lengths xs ys h)
+
+pub told_by : (d : ℕ) (xs ys : List ℕ) → length xs ≡ length ys → d ≡ fold differs 0 (zip xs ys) → Told (eqb d 0) xs ys
+told_by d xs ys l h = told (eqb d 0) xs ys (by_difference d xs ys l h)

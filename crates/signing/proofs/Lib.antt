@@ -1,3 +1,2 @@
 pub mod Comparing
-pub mod Joining
 pub mod Runs

@@ -1,7 +1,7 @@
 -- Byte strings that carry their signature, in runs without forgery.
 use Rattle.std.proofs.Common.{◌≡◌, ℕ, ◌+◌, ◌-◌, ◌<◌, ◌≤◌, Bool, true, false, not, ◌&&◌, List, [], ◌∷◌, ◌++◌, length, get_or, take, drop, sym, refl, ap, ◌∙◌, ap₂, append_assoc, arith, le-ltb, lt-ltb}
 use borrow.Rule.Slice.PartMut.{put_mid}
-use Rattle.std.proofs.lemmas.List.{length-append, length-take-le, take_at, drop_at, take_rest}
+use Rattle.std.proofs.lemmas.List.{length-append, length-take-le, take_at, drop_at}
 use Rattle.std.proofs.lemmas.Bool.{both_ways}
 use Rattle.digest.proofs.Messages.{put_is}
 use Rattle.signing.specs.Signed.{body, ending, carries, SignedBefore, Scheme}
@@ -17,13 +17,6 @@ module _ (accepts : List ℕ → List ℕ → Bool) where
   pub long_enough : (bytes : List ℕ) → 64 ≤ length bytes → accepts (body bytes) (ending bytes) ≡ carries accepts bytes
   unfolding carries
   long_enough bytes h = sym (ap (λ b. not b && accepts (body bytes) (ending bytes)) (le-ltb (length bytes) 64 h))
-
-  -- the two parts as the code cuts them
-  pub cut : (bytes : List ℕ) (n : ℕ) → n ≡ length bytes - 64
-      → accepts (take (n - 0) bytes) (take (length bytes - n) (drop n bytes)) ≡ accepts (body bytes) (ending bytes)
-  cut bytes n e =
-      let i : n - 0 ≡ length bytes - 64 = omega arith in
-      ap₂ accepts (ap (λ k. take k bytes) i) (take_rest bytes n ∙ ap (λ k. drop k bytes) e)
 
   pub before : (bytes : List ℕ) (r : Bool) → r ≡ accepts (body bytes) (ending bytes) → SignedBefore accepts bytes r
   before bytes r e = λ past later unforged accepted. unforged past later (body bytes) (ending bytes) refl (sym e ∙ accepted)

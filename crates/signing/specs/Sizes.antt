@@ -2,7 +2,7 @@
 use Rattle.std.specs.Prelude.{◌≡◌, ℕ, ◌+◌, List, length}
 use Rattle.std.proofs.Common.{ap₂, ◌∙◌}
 use Rattle.std.proofs.lemmas.List.{length-append}
-use Rattle.digest.proofs.Messages.{length-digest}
+use Rattle.digest.specs.Lengths.{length-digest}
 use Rattle.digest.specs.Hmac.{hmac}
 use Rattle.signing.specs.StandIn.{half, stand_in}
 

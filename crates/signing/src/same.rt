@@ -10,9 +10,8 @@ pub fn same_bytes(a: &[u8], b: &[u8]) -> bool
     if a.len() != b.len() {
         return false;
     }
-    let mut difference = 0;
-    for i in 0..a.len() {
-        difference |= a[i] ^ b[i];
-    }
-    difference == 0
+    a.iter()
+        .zip(b)
+        .fold(0, |difference, (x, y)| difference | (x ^ y))
+        == 0
 }
