@@ -1,13 +1,15 @@
 // Holds digests and HMAC tags to published values.
 #![tactic(auto)]
 
-use digest::{Hasher, Hmac, TooLong, hmac_sha256, sha256};
-use std::alloc::{AllocError, AllocFailed, Global};
+use digest::{Hasher, Hmac, Incremental, TooLong, hmac_sha256, in_parts, sha256};
+use std::alloc::{AllocError, Global};
 use std::io::Write;
 use std::process::ExitCode;
-use std::{env, fmt, fs, io};
-use words::Words;
-use words::cut::{bare, cut};
+use std::rt::{Env, Files};
+use std::{env, fs, io};
+use thiserror::Error;
+use words::cut::bare;
+use words::{Words, Wrong};
 
 const HELP: &str = "\
 usage: vectors FILE ..
@@ -24,88 +26,53 @@ Byte strings are in hexadecimal digits; - is the empty one.
 ";
 
 // What is wrong with a line, or why it could not be told.
-#[derive(Drop)]
+#[derive(Debug, Drop, Error)]
 enum LineError {
-    Wrong(&'static str),
-    Io(io::Error),
-    Memory(AllocError),
-}
-
-impl fmt::Display for LineError {
-    fn fmt<W: fmt::Write>(&self, f: &mut fmt::Formatter<W>) -> fmt::Result {
-        match self {
-            LineError::Wrong(text) => write!(f, "{text}"),
-            LineError::Io(error) => write!(f, "{error}"),
-            LineError::Memory(error) => write!(f, "{error}"),
-        }
-    }
-}
-
-impl From<io::Error> for LineError {
-    fn from(error: io::Error) -> LineError {
-        LineError::Io(error)
-    }
-}
-
-impl<T: Drop> From<AllocFailed<T>> for LineError {
-    fn from(failed: AllocFailed<T>) -> LineError {
-        LineError::Memory(AllocError::from(failed))
-    }
-}
-
-impl From<AllocError> for LineError {
-    fn from(error: AllocError) -> LineError {
-        LineError::Memory(error)
-    }
+    #[error("a hexadecimal digit is expected")]
+    NotHexadecimal,
+    #[error("an odd number of hexadecimal digits")]
+    HalfByte,
+    #[error("a number is expected")]
+    NotANumber,
+    #[error("a digest has 32 bytes")]
+    DigestLength,
+    #[error("a tag has 16 to 32 bytes")]
+    TagLength,
+    #[error("sha256 or hmac is expected")]
+    UnknownKind,
+    #[error(transparent)]
+    Words(#[from] Wrong),
+    #[error(transparent)]
+    Io(#[from] io::Error),
+    #[error(transparent)]
+    Memory(#[from(alloc)] AllocError),
 }
 
 // Why the values of the files do not hold, or are not known to.
-#[derive(Drop)]
+#[derive(Debug, Drop, Error)]
 enum Failure {
+    #[error("{path}: {error}")]
     Unread {
         path: String,
         error: io::Error,
     },
+    #[error("{path}, line {number}: {error}")]
     Line {
         path: String,
         number: usize,
         error: LineError,
     },
+    #[error("a file is expected; see vectors --help")]
     NoFile,
+    #[error("a value differs")]
     Differs,
-    Io(io::Error),
-    Memory(AllocError),
+    #[error(transparent)]
+    Io(#[from] io::Error),
+    #[error(transparent)]
+    Memory(#[from(alloc)] AllocError),
 }
 
-impl fmt::Display for Failure {
-    fn fmt<W: fmt::Write>(&self, f: &mut fmt::Formatter<W>) -> fmt::Result {
-        match self {
-            Failure::Unread { path, error } => write!(f, "{path}: {error}"),
-            Failure::Line {
-                path,
-                number,
-                error,
-            } => write!(f, "{path}, line {number}: {error}"),
-            Failure::NoFile => write!(f, "a file is expected; see vectors --help"),
-            Failure::Differs => write!(f, "a value differs"),
-            Failure::Io(error) => write!(f, "{error}"),
-            Failure::Memory(error) => write!(f, "{error}"),
-        }
-    }
-}
-
-impl From<io::Error> for Failure {
-    fn from(error: io::Error) -> Failure {
-        Failure::Io(error)
-    }
-}
-
-impl From<AllocError> for Failure {
-    fn from(error: AllocError) -> Failure {
-        Failure::Memory(error)
-    }
-}
-
+// Not by the kit's `hex`, which takes capital letters too.
 fn digit(byte: u8) -> Option<u8> {
     match byte {
         b'0'..=b'9' => Some(byte - b'0'),
@@ -115,46 +82,28 @@ fn digit(byte: u8) -> Option<u8> {
 }
 
 fn bytes_of(heap: Global, word: &[u8]) -> Result<Vec<u8>, LineError> {
-    let mut bytes = Vec::new(heap);
     if word == b"-".as_slice() {
-        return Ok(bytes);
+        return Ok(Vec::new(heap));
     }
-    let mut half = None;
-    for byte in word {
-        let Some(low) = digit(*byte) else {
-            return Err(LineError::Wrong("a hexadecimal digit is expected"));
-        };
-        match half {
-            None => half = Some(low),
-            Some(high) => {
-                bytes.push(high << 4 | low)?;
-                half = None;
-            }
-        }
+    let digits: Vec<u8> = word
+        .iter()
+        .map(|byte| digit(*byte).ok_or(LineError::NotHexadecimal))
+        .try_collect(heap)?;
+    let (pairs, half) = digits.as_chunks::<2>();
+    if !half.is_empty() {
+        return Err(LineError::HalfByte);
     }
-    match half {
-        None => Ok(bytes),
-        Some(_) => Err(LineError::Wrong("an odd number of hexadecimal digits")),
-    }
+    Ok(
+        pairs
+            .iter()
+            .map(|[high, low]| high << 4 | low)
+            .collect(heap)?,
+    )
 }
 
-fn next<'a>(words: &mut Words<'a>) -> Result<&'a [u8], LineError> {
-    match words.next() {
-        Ok(word) => Ok(word),
-        Err(_) => Err(LineError::Wrong("a word is missing")),
-    }
-}
-
+// Here and in the two functions that call it the memory and the words stay two parameters: a struct of them would be longer.
 fn next_bytes(heap: Global, words: &mut Words<'_>) -> Result<Vec<u8>, LineError> {
-    bytes_of(heap, next(words)?)
-}
-
-fn repeated(heap: Global, message: &[u8], times: u32) -> Result<Vec<u8>, LineError> {
-    let mut all = Vec::new(heap);
-    for _ in 0..times {
-        all.extend_from_slice(message)?;
-    }
-    Ok(all)
+    bytes_of(heap, words.next()?)
 }
 
 // Where a message is cut into parts: the limits of a block, of two, and of what leaves room for the length.
@@ -169,81 +118,44 @@ fn digest_of_times(message: &[u8], times: u32) -> Result<[u8; 32], TooLong> {
     Ok(hasher.finish())
 }
 
-// The digest of a message in three parts.
-fn digest_in_parts(first: &[u8], second: &[u8], third: &[u8]) -> Result<[u8; 32], TooLong> {
-    let mut hasher = Hasher::new();
-    hasher.update(first)?;
-    hasher.update(second)?;
-    hasher.update(third)?;
-    Ok(hasher.finish())
-}
-
-fn tag_in_parts(
-    key: &[u8],
-    first: &[u8],
-    second: &[u8],
-    third: &[u8],
-) -> Result<[u8; 32], TooLong> {
-    let mut hmac = Hmac::new(key);
-    hmac.update(first)?;
-    hmac.update(second)?;
-    hmac.update(third)?;
-    Ok(hmac.finish())
-}
-
-// Whether a digest is the published one with its message cut in three at any two of these places.
-fn digest_cut_at_limits(message: &[u8], published: &[u8]) -> Result<bool, TooLong> {
+// Whether what a message comes to begins with the published bytes, with the message cut in three at any two of these places.
+fn holds_cut<T: Incremental + Copy + Drop>(
+    empty: T,
+    message: &[u8],
+    published: &[u8],
+) -> Result<bool, TooLong> {
     for i in CUTS {
         for j in CUTS {
             if i <= j && j <= message.len() {
-                let computed = digest_in_parts(&message[0..i], &message[i..j], &message[j..])?;
-                if !begins(&computed, published) {
+                let parts = [&message[..i], &message[i..j], &message[j..]];
+                if !in_parts(empty, &parts)?.starts_with(published) {
                     return Ok(false);
                 }
             }
         }
     }
     Ok(true)
-}
-
-// Whether a tag begins with the published bytes with its message cut in three at any two of these places.
-fn tag_cut_at_limits(key: &[u8], message: &[u8], published: &[u8]) -> Result<bool, TooLong> {
-    for i in CUTS {
-        for j in CUTS {
-            if i <= j && j <= message.len() {
-                let computed = tag_in_parts(key, &message[0..i], &message[i..j], &message[j..])?;
-                if !begins(&computed, published) {
-                    return Ok(false);
-                }
-            }
-        }
-    }
-    Ok(true)
-}
-
-fn begins(bytes: &[u8; 32], front: &[u8]) -> bool {
-    front.len() <= 32 && &bytes[0..front.len()] == front
 }
 
 // Whether the digest that a line has is the one of its message, taken whole, by its repetitions and cut at limits.
 fn digest_holds(heap: Global, words: &mut Words<'_>) -> Result<bool, LineError> {
     let message = next_bytes(heap, words)?;
     let Ok(times) = words.number() else {
-        return Err(LineError::Wrong("a number is expected"));
+        return Err(LineError::NotANumber);
     };
     let published = next_bytes(heap, words)?;
     if published.len() != 32 {
-        return Err(LineError::Wrong("a digest has 32 bytes"));
+        return Err(LineError::DigestLength);
     }
-    let Ok(by_times) = digest_of_times(message.as_slice(), times) else {
+    let Ok(by_times) = digest_of_times(&message, times) else {
         return Ok(false);
     };
-    let all = repeated(heap, message.as_slice(), times)?;
-    let whole = sha256(all.as_slice());
-    let Ok(cut) = digest_cut_at_limits(all.as_slice(), published.as_slice()) else {
+    let all = message.repeat(heap, times as usize)?;
+    let whole = sha256(&all);
+    let Ok(cut) = holds_cut(Hasher::new(), &all, &published) else {
         return Ok(false);
     };
-    Ok(cut && begins(&whole, published.as_slice()) && begins(&by_times, published.as_slice()))
+    Ok(cut && whole.starts_with(&published) && by_times.starts_with(&published))
 }
 
 // Whether the tag that a line has, or what is published of it, is the one of its message, taken whole and cut at limits.
@@ -251,33 +163,29 @@ fn tag_holds(heap: Global, words: &mut Words<'_>) -> Result<bool, LineError> {
     let key = next_bytes(heap, words)?;
     let message = next_bytes(heap, words)?;
     let published = next_bytes(heap, words)?;
-    if published.len() < 16 || published.len() > 32 {
-        return Err(LineError::Wrong("a tag has 16 to 32 bytes"));
+    if !(16..=32).contains(&published.len()) {
+        return Err(LineError::TagLength);
     }
-    let whole = hmac_sha256(key.as_slice(), message.as_slice());
-    let Ok(cut) = tag_cut_at_limits(key.as_slice(), message.as_slice(), published.as_slice()) else {
+    let whole = hmac_sha256(&key, &message);
+    let Ok(cut) = holds_cut(Hmac::new(&key), &message, &published) else {
         return Ok(false);
     };
-    Ok(cut && begins(&whole, published.as_slice()))
+    Ok(cut && whole.starts_with(&published))
 }
 
 // One line: its first two words are printed, and whether its value holds.
-fn hold(rt: &HostRuntime, line: &[u8]) -> Result<bool, LineError> {
+fn hold(rt: &(impl Print + AllocGlobal), line: &[u8]) -> Result<bool, LineError> {
     let heap = rt.alloc();
-    let mut words = Words { rest: Some(line) };
-    let kind = next(&mut words)?;
-    let name = next(&mut words)?;
-    let holds = if kind == b"sha256".as_slice() {
-        digest_holds(heap, &mut words)?
-    } else if kind == b"hmac".as_slice() {
-        tag_holds(heap, &mut words)?
-    } else {
-        return Err(LineError::Wrong("sha256 or hmac is expected"));
+    let mut words = Words::new(line);
+    let kind = words.next()?;
+    let name = words.next()?;
+    let holds = match kind {
+        b"sha256" => digest_holds(heap, &mut words)?,
+        b"hmac" => tag_holds(heap, &mut words)?,
+        _ => return Err(LineError::UnknownKind),
     };
-    let Ok(()) = words.end() else {
-        return Err(LineError::Wrong("a word too many"));
-    };
-    let mut out = rt.stdout();
+    words.end()?;
+    let mut out = io::writer(rt);
     out.write_all(kind)?;
     out.write_all(b" ")?;
     out.write_all(name)?;
@@ -285,58 +193,44 @@ fn hold(rt: &HostRuntime, line: &[u8]) -> Result<bool, LineError> {
     Ok(holds)
 }
 
-// Whether every value of a file holds.
-fn hold_all(rt: &HostRuntime, path: &str) -> Result<bool, Failure> {
+// Whether every value of a file holds. Each line is told, also after one that differs, and so not by `all`, which would stop there.
+fn hold_all(rt: &(impl Files + Print + AllocGlobal), path: &str) -> Result<bool, Failure> {
     let heap = rt.alloc();
-    let text = match fs::read(rt, path) {
-        Ok(text) => text,
-        Err(error) => {
-            let path = String::from_str(heap, path)?;
-            return Err(Failure::Unread { path, error });
-        }
-    };
+    let text = fs::read(rt, path).try_map_err(|error| {
+        let path = String::from_str(heap, path)?;
+        Ok(Failure::Unread { path, error })
+    })?;
     let mut all = true;
-    let mut rest = Some(text.as_slice());
-    for number in 1..text.len() + 2 {
-        let Some(left) = rest else {
-            break;
-        };
-        let (line, after) = cut(left, b'\n');
-        rest = after;
+    for (line, number) in text.split(|byte| *byte == b'\n').zip(1..) {
         let said = bare(line);
-        if said.is_empty() {
-            continue;
-        }
-        match hold(rt, said) {
-            Ok(holds) => all = all && holds,
-            Err(error) => {
+        if !said.is_empty() {
+            all &= hold(rt, said).try_map_err(|error| {
                 let path = String::from_str(heap, path)?;
-                return Err(Failure::Line {
+                Ok(Failure::Line {
                     path,
                     number,
                     error,
-                });
-            }
+                })
+            })?;
         }
     }
     Ok(all)
 }
 
-fn vectors(rt: &HostRuntime) -> Result<(), Failure> {
-    let mut all = true;
-    let mut none = true;
+fn vectors(rt: &(impl Env + Files + Print + AllocGlobal)) -> Result<(), Failure> {
+    let mut held = None;
     for path in env::args(rt)?.skip(1) {
         if path.as_str() == "--help" {
             print!(rt; "{HELP}")?;
             return Ok(());
         }
-        none = false;
-        all = hold_all(rt, path.as_str())? && all;
+        held = Some(hold_all(rt, path.as_str())? && held.unwrap_or(true));
     }
-    if none {
-        return Err(Failure::NoFile);
+    match held {
+        None => Err(Failure::NoFile),
+        Some(false) => Err(Failure::Differs),
+        Some(true) => Ok(()),
     }
-    if all { Ok(()) } else { Err(Failure::Differs) }
 }
 
 // What is wrong is said once, in plain words: an error that `main` returned would be printed again.
