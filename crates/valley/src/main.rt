@@ -1,12 +1,15 @@
 // Plays a script of barrings and visits, and prints what came of each line.
 #![tactic(auto)]
 
-use script::{ScriptError, lock_line, read, report};
-use spread::run;
+use model::Holder;
+use script::{LockLine, ScriptError, read, report};
+use spread::{RunError, run};
 use std::alloc::{AllocError, Global};
 use std::io::Read;
 use std::process::ExitCode;
-use std::{env, fmt, fs, io};
+use std::rt::{Env, Files};
+use std::{env, fs, io};
+use thiserror::Error;
 use world::World;
 
 const HELP: &str = "\
@@ -32,100 +35,83 @@ turned away N, broken off, no list, or refused N.
 ";
 
 // Why nothing was played, or why what came of it could not be printed.
-#[derive(Drop)]
+#[derive(Debug, Drop, Error)]
 enum Failure {
+    #[error("{path}: {error}")]
     Unread { path: String, error: io::Error },
-    Faulty(ScriptError),
-    NotSetUp,
+    #[error(transparent)]
+    Faulty(#[from] ScriptError),
+    // There is room for all answers, so it can only be that.
+    #[error("a card or lock is not set up")]
+    NotPlayed(#[from] RunError),
+    #[error("one script at a time; see valley --help")]
     TwoScripts,
-    Io(io::Error),
-    Memory(AllocError),
-}
-
-impl fmt::Display for Failure {
-    fn fmt<W: fmt::Write>(&self, f: &mut fmt::Formatter<W>) -> fmt::Result {
-        match self {
-            Failure::Unread { path, error } => write!(f, "{path}: {error}"),
-            Failure::Faulty(error) => write!(f, "{error}"),
-            Failure::NotSetUp => write!(f, "a card or lock is not set up"),
-            Failure::TwoScripts => write!(f, "one script at a time; see valley --help"),
-            Failure::Io(error) => write!(f, "{error}"),
-            Failure::Memory(error) => write!(f, "{error}"),
-        }
-    }
-}
-
-impl From<io::Error> for Failure {
-    fn from(error: io::Error) -> Failure {
-        Failure::Io(error)
-    }
-}
-
-impl From<AllocError> for Failure {
-    fn from(error: AllocError) -> Failure {
-        Failure::Memory(error)
-    }
+    #[error(transparent)]
+    Io(#[from] io::Error),
+    #[error(transparent)]
+    Memory(#[from(alloc)] AllocError),
 }
 
 // What is to be played: a file's text, or standard input's.
-fn text_of(rt: &HostRuntime, path: Option<String>) -> Result<Vec<u8>, Failure> {
-    let heap = rt.alloc();
+fn text_of(
+    rt: &(impl Files + Input + AllocGlobal),
+    path: Option<String>,
+) -> Result<Vec<u8>, Failure> {
     let Some(path) = path else {
-        let mut text = Vec::new(heap);
-        rt.stdin().read_to_end(&mut text)?;
+        let mut text = Vec::new(rt.alloc());
+        rt.reader().read_to_end(&mut text)?;
         return Ok(text);
     };
-    match fs::read(rt, path.as_str()) {
-        Ok(text) => Ok(text),
-        Err(error) => Err(Failure::Unread { path, error }),
-    }
+    fs::read(rt, path.as_str()).map_err(|error| Failure::Unread { path, error })
 }
 
 // Each lock by number, with its list.
-fn closing(heap: Global, world: &World, locks: &[u16]) -> Result<String, AllocError> {
+fn closing(heap: Global, world: &World, holders: &[Holder]) -> Result<String, AllocError> {
+    let mut locks: Vec<u16> = holders
+        .iter()
+        .filter_map(|holder| match holder {
+            Holder::Lock(lock) => Some(*lock),
+            Holder::Card(_) => None,
+        })
+        .collect(heap)?;
+    locks.sort_unstable();
     let mut text = String::new(heap);
-    for number in locks {
+    for number in &locks {
         if let Some(lock) = world.lock(*number) {
-            let list = lock.list();
-            let line = lock_line(heap, *number, list, world.desk().list(list))?;
-            text.push_str(line.as_str())?;
-            text.push('\n')?;
+            let line = LockLine {
+                lock: *number,
+                list: lock.list(),
+                barrings: world.desk().list(lock.list()),
+            };
+            writeln!(text, "{line}")?;
         }
     }
     Ok(text)
 }
 
-fn play(rt: &HostRuntime, text: &[u8]) -> Result<(), Failure> {
+fn play(rt: &(impl Print + AllocGlobal), text: &[u8]) -> Result<(), Failure> {
     let heap = rt.alloc();
-    let mut script = match read(heap, text) {
-        Ok(script) => script,
-        Err(error) => return Err(Failure::Faulty(error)),
-    };
-    let mut world = World::new(heap, script.cards.as_slice(), script.locks.as_slice())?;
-    let mut answers = Vec::with_capacity(heap, script.events.len())?;
-    let Ok(()) = run(&mut world, script.events.as_slice(), &mut answers) else {
-        return Err(Failure::NotSetUp);
-    };
-    rt.print(report(heap, script.commands.as_slice(), answers.as_slice())?)?;
-    script.locks.sort_unstable();
-    rt.print(closing(heap, &world, script.locks.as_slice())?)?;
+    let script = read(heap, text)?;
+    let mut world = World::new(heap, script.holders())?;
+    let mut answers = Vec::with_capacity(heap, script.events().len())?;
+    run(&mut world, script.events(), &mut answers)?;
+    print!(rt; "{}", report(heap, script.commands(), &answers)?)?;
+    print!(rt; "{}", closing(heap, &world, script.holders())?)?;
     Ok(())
 }
 
-fn valley(rt: &HostRuntime) -> Result<(), Failure> {
+fn valley(rt: &(impl Env + Files + Input + Print + AllocGlobal)) -> Result<(), Failure> {
     let mut args = env::args(rt)?.skip(1);
     let path = args.next();
     if args.next().is_some() {
         return Err(Failure::TwoScripts);
     }
-    if let Some(word) = &path {
-        if word.as_str() == "--help" {
-            print!(rt; "{HELP}")?;
-            return Ok(());
-        }
+    if path.as_ref().is_some_and(|word| word.as_str() == "--help") {
+        print!(rt; "{HELP}")?;
+        return Ok(());
     }
     let text = text_of(rt, path)?;
-    play(rt, text.as_slice())
+    play(rt, &text)
 }
 
 // What is wrong is said once, in plain words: an error that `main` returned would be printed again.
