@@ -8,27 +8,24 @@ use world::World;
 #[test]
 fn refused_runs(rt: HostRuntime) -> Result<(), Fail> {
     let heap = rt.alloc();
-    let mut world = World::new(heap, &[1, 7], &[5])?;
+    let holders = [Holder::Card(1), Holder::Card(7), Holder::Lock(5)];
+    let mut world = World::new(heap, &holders)?;
     let mut answers = Vec::with_capacity(heap, 3)?;
     let card = [Event::Bar(7), Event::AtDesk(9), Event::Bar(8)];
-    assert!(rt;
-        matches!(
-            run(&mut world, &card, &mut answers),
-            Err(RunError::Unknown {
-                at: 1,
-                who: Holder::Card(9)
-            })
-        )
+    assert_eq!(rt;
+        run(&mut world, &card, &mut answers),
+        Err(RunError::Unknown {
+            at: 1,
+            who: Holder::Card(9)
+        })
     );
     let lock = [Event::Visit { card: 1, lock: 6 }];
-    assert!(rt;
-        matches!(
-            run(&mut world, &lock, &mut answers),
-            Err(RunError::Unknown {
-                at: 0,
-                who: Holder::Lock(6)
-            })
-        )
+    assert_eq!(rt;
+        run(&mut world, &lock, &mut answers),
+        Err(RunError::Unknown {
+            at: 0,
+            who: Holder::Lock(6)
+        })
     );
     let thief = Event::Adversary {
         card: 7,
@@ -36,13 +33,11 @@ fn refused_runs(rt: HostRuntime) -> Result<(), Fail> {
         says: 0,
         gives: None,
     };
-    assert!(rt; matches!(world.step(thief), Err(Holder::Lock(6))));
+    assert_eq!(rt; world.step(thief), Err(Holder::Lock(6)));
     let mut none = Vec::new(heap);
-    assert!(rt;
-        matches!(
-            run(&mut world, &[Event::Bar(7)], &mut none),
-            Err(RunError::NoRoom)
-        )
+    assert_eq!(rt;
+        run(&mut world, &[Event::Bar(7)], &mut none),
+        Err(RunError::NoRoom)
     );
     assert_eq!(rt; answers.len(), 0);
     assert_eq!(rt; world.desk().newest(), 0);

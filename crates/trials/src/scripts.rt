@@ -1,5 +1,5 @@
 // Scripts, by example: what is read and played, and what is refused at which line.
-use script::{read, report};
+use script::{LockLine, read, report};
 use spread::run;
 use std::alloc::{AllocError, Global};
 use std::test::Fail;
@@ -11,10 +11,10 @@ fn told(heap: Global, text: &str) -> Result<String, AllocError> {
         Ok(script) => script,
         Err(error) => return error.to_string(heap),
     };
-    let mut world = World::new(heap, script.cards.as_slice(), script.locks.as_slice())?;
-    let mut answers = Vec::with_capacity(heap, script.events.len())?;
-    match run(&mut world, script.events.as_slice(), &mut answers) {
-        Ok(()) => report(heap, script.commands.as_slice(), answers.as_slice()),
+    let mut world = World::new(heap, script.holders())?;
+    let mut answers = Vec::with_capacity(heap, script.events().len())?;
+    match run(&mut world, script.events(), &mut answers) {
+        Ok(()) => report(heap, script.commands(), answers.as_slice()),
         Err(_) => String::from_str(heap, "not played"),
     }
 }
@@ -70,5 +70,26 @@ fn scripts(rt: HostRuntime) -> Result<(), Fail> {
         let told = told(rt.alloc(), text)?;
         assert_eq!(rt; told.as_str(), expected);
     }
+    Ok(())
+}
+
+// What a lock has is printed in full, with a list that bars nobody too.
+#[test]
+fn lock_lines(rt: HostRuntime) -> Result<(), Fail> {
+    let heap = rt.alloc();
+    let barring = LockLine {
+        lock: 5,
+        list: 2,
+        barrings: &[7, 4294967295],
+    };
+    let text = barring.to_string(heap)?;
+    assert_eq!(rt; text.as_str(), "lock 5: list 2, bars 7 4294967295");
+    let empty = LockLine {
+        lock: 65535,
+        list: 0,
+        barrings: &[],
+    };
+    let text = empty.to_string(heap)?;
+    assert_eq!(rt; text.as_str(), "lock 65535: list 0, bars none");
     Ok(())
 }
