@@ -176,6 +176,7 @@ pub fn read(heap: Global, text: &[u8]) -> Result<Script, ScriptError>
     ensures law { ScriptLaw text.now result }
 {
     let mut script = Script::new(heap);
+    // `enumerate` says how many lines are above, and lines are counted from 1.
     for (above, row) in text.split_inclusive(|byte| *byte == b'\n').enumerate() {
         let line = above + 1;
         let [front @ .., b'\n'] = row else {

@@ -12,7 +12,7 @@ use std::fmt;
 #[derive(Clone, Copy, Debug, PartialEq, Eq)]
 pub struct Outcome(pub Option<Answer>);
 
-// By hand here and below, since a derived `Display` has no contract.
+// By hand here and below, since a derived `Display` has no contract. A fault is printed as its number, which is said here and not by a `Display` of its own: elsewhere it may want words.
 impl fmt::Display for Outcome {
     ghost output = { λ x. Some (outcome_text x.0) };
 

@@ -137,7 +137,7 @@ fn holds_cut<T: Incremental + Copy + Drop>(
     Ok(true)
 }
 
-// Whether the digest that a line has is the one of its message, taken whole, by its repetitions and cut at limits.
+// Whether the digest that a line has is the one of its message, taken whole, by its repetitions and cut at limits. What may be refused is taken apart by `let .. else`, here and in `tag_holds`, as was asked for.
 fn digest_holds(heap: Global, words: &mut Words<'_>) -> Result<bool, LineError> {
     let message = next_bytes(heap, words)?;
     let Ok(times) = words.number() else {

@@ -81,7 +81,8 @@ impl World {
     fn visit(&mut self, card: u16, lock: u16) -> Result<Answer, Holder>
         ensures { Steps self.old (Event.Visit card lock) result self.new }
     {
-        // Whom the visit names is taken apart by `let .. else`, as was asked for. The card's memory is a copy until the lock is found, since what is refused changes nothing.
+        // Whom a visit names is taken apart by `let .. else`, here and in `adversary`, as was asked for. The card's memory is a copy until the lock is found: with both lent at once, the
+        // cards of a visit at an unknown lock could not be proved to be the same map, and what is refused changes nothing.
         let Some(mut visitor) = self.card(card) else {
             return Err(Holder::Card(card));
         };
