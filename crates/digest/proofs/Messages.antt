@@ -2,7 +2,7 @@
 use Rattle.std.proofs.Common.{◌≡◌, ℕ, zero, suc, ◌+◌, ◌-◌, ◌*◌, ◌/◌, ◌%◌, ◌^◌, ◌<◌, ◌≤◌, List, [], ◌∷◌, ◌++◌, map, flat_map, length, take, drop, set, replicate, w32, sym, refl, ap, ◌∙◌, ap₂, append_assoc, append-nil, add-zero, add-suc, div-one, arith}
 use borrow.Rule.Slice.PartMut.{put_mid}
 use Rattle.std.specs.Int.{to_be_bytes}
-use Rattle.std.proofs.lemmas.List.{length-append, length-take, length-drop, length-replicate, take-append-le, drop-append-le, drop-drop, drop_all, drop_at, take_at, set_at, take-append-drop, drop-replicate, replicate-append-replicate}
+use Rattle.std.proofs.lemmas.List.{length-append, length-take, length-drop, length-replicate, take-append-le, drop-append-le, drop-drop, drop_all, drop_at, set_at, take-append-drop, take-replicate, drop-replicate}
 use Rattle.compression.specs.declared.state.State.{State}
 use Rattle.compression.specs.Sha256.{initial_hash, bytes, zeros, padding, padded, compressed, processed, output, digest}
 
@@ -36,29 +36,23 @@ put_is at xs ys zs e =
     let k : at + length zs - at ≡ length zs = omega arith in
     ap₂ (λ u v. take at xs ++ (u ++ v)) e (ap (λ j. drop j (drop at xs)) k ∙ drop-drop (length zs) at xs)
 
--- n zeros, over which are written `rest` at the start, the byte 0x80 after it, and `bs` at the end
+-- n zeros, over which are written `bs` at the end, `rest` at the start, and the byte 0x80 after it
 pub last_is : (n : ℕ) (rest bs b1 b2 : List ℕ) → length rest + 9 ≤ n → length bs ≡ 8
-    → b1 ≡ rest ++ drop (0 + length rest) (replicate n 0)
-    → b2 ≡ take (n - 8) (set b1 (length rest) 0x80) ++ (bs ++ drop (n - 8 + length bs) (set b1 (length rest) 0x80))
-    → b2 ≡ rest ++ 0x80 ∷ (replicate (n - 9 - length rest) 0 ++ bs)
+    → b1 ≡ take (n - 8) (replicate n 0) ++ (bs ++ drop (n - 8 + length bs) (replicate n 0))
+    → b2 ≡ rest ++ drop (0 + length rest) b1
+    → set b2 (length rest) 0x80 ≡ rest ++ 0x80 ∷ (replicate (n - 9 - length rest) 0 ++ bs)
 last_is n rest bs b1 b2 h l e f =
     let k = length rest in
     let m = n - 9 - k in
-    let kept = rest ++ 0x80 ∷ replicate m 0 in
-    let marked = set b1 k 0x80 in
-    let i : n - (0 + k) ≡ suc (m + 8) = omega arith in
-    let e1 : b1 ≡ rest ++ 0 ∷ replicate (m + 8) 0 =
-    e ∙ ap (λ z. rest ++ z) (drop-replicate (0 + k) n 0 ∙ ap (λ j. replicate j 0) i) in
-    let e2 : marked ≡ kept ++ replicate 8 0 =
-    ap (λ z. set z k 0x80) e1 ∙ set_at rest 0 (replicate (m + 8) 0) 0x80 k refl
-    ∙ ap (λ z. rest ++ 0x80 ∷ z) (sym (replicate-append-replicate m 8 0))
-    ∙ sym (append_assoc rest (0x80 ∷ replicate m 0) (replicate 8 0)) in
-    let lk : length kept ≡ n - 8 = simp (length-append, length-replicate) (omega arith) in
-    let e3 : take (n - 8) marked ≡ kept = ap (take (n - 8)) e2 ∙ take_at kept (replicate 8 0) (n - 8) lk in
-    let lm : length marked ≡ n = ap length e2 ∙ length-append kept (replicate 8 0) ∙ omega arith in
-    let e4 : drop (n - 8 + length bs) marked ≡ [] = drop_all (n - 8 + length bs) marked (omega arith) in
-    f ∙ ap₂ (λ v w. v ++ (bs ++ w)) e3 e4 ∙ ap (λ v. kept ++ v) (append-nil bs)
-    ∙ append_assoc rest (0x80 ∷ replicate m 0) bs
+    let zs : List ℕ = replicate (n - 8) 0 in
+    let e1 : b1 ≡ zs ++ bs =
+    e ∙ ap₂ (λ v w. v ++ (bs ++ w)) (take-replicate (n - 8) n 0 (omega arith)) (drop_all (n - 8 + length bs) (replicate n 0) (simp length-replicate (omega arith)))
+    ∙ ap (λ w. zs ++ w) (append-nil bs) in
+    let left : n - 8 - (0 + k) ≡ suc m = omega arith in
+    let e2 : drop (0 + k) b1 ≡ 0 ∷ (replicate m 0 ++ bs) =
+    ap (drop (0 + k)) e1 ∙ drop-append-le (0 + k) zs bs (simp length-replicate (omega arith))
+    ∙ ap (λ v. v ++ bs) (drop-replicate (0 + k) (n - 8) 0 ∙ ap (λ j. replicate j 0) left) in
+    ap (λ z. set z k 0x80) (f ∙ ap (λ z. rest ++ z) e2) ∙ set_at rest 0 (replicate m 0 ++ bs) 0x80 k refl
 
 -- ---- the end of a message
 

@@ -13,15 +13,15 @@ pub(crate) fn put(out: &mut [u8], at: usize, part: &[u8])
     out[at..at + part.len()].copy_from_slice(part);
 }
 
-// The last bytes of a message with the padding after them, in a block or two.
+// The last bytes of a message with the padding after them, in a block or two. The length goes first: with it last, the compiler would clear what is between by a call of C's `memset`.
 fn last_blocks<const N: usize>(rest: &[u8], bits: u64) -> [u8; N]
     requires { length rest.now + 9 ≤ N }
     ensures { result ≡ rest.now ++ 0x80 ∷ (replicate (N - 9 - length rest.now) 0 ++ bytes 8 bits) }
 {
     let mut last = [0; N];
+    put(&mut last, N - 8, &bits.to_be_bytes());
     put(&mut last, 0, rest);
     last[rest.len()] = 0x80;
-    put(&mut last, N - 8, &bits.to_be_bytes());
     last
 }
 

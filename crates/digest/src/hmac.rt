@@ -39,7 +39,7 @@ fn key_block(key: &[u8]) -> [u8; 64]
 fn mask(block: [u8; 64], pad: u8) -> [u8; 64]
     ensures { result ≡ map (λ b. bit_xor b pad) block }
 {
-    block.map(|b| b ^ pad)
+    std::array::from_fn(|i| block[i] ^ pad)
 }
 
 // The state after the key's block, each byte of it XORed with a pad.

@@ -37,7 +37,8 @@ impl Desk {
 
     // The desk's day.
     pub fn day(&self) -> u32
-        ensures { result ≡ self.now.day }
+        ensures day { result ≡ self.now.day }
+        ensures few { length self.now.barred ≤ 1024 }
     {
         self.day
     }
@@ -47,6 +48,7 @@ impl Desk {
         ensures answer { result ≡ day_answer day self.old.day }
         ensures day { self.new.day ≡ day_after day self.old.day }
         ensures barred { self.new.barred ≡ self.old.barred }
+        ensures few { length self.new.barred ≤ 1024 }
     {
         if day < self.day {
             return Err(Fault::OutOfRange);
@@ -60,6 +62,7 @@ impl Desk {
     pub fn bar(&mut self, card: u32) -> Result<u32, Fault>
         ensures answer { result ≡ bar_answer card self.old.barred }
         ensures barred { self.new.barred ≡ barred_after card self.old.barred }
+        ensures few { length self.new.barred ≤ 1024 }
         ensures day { self.new.day ≡ self.old.day }
     {
         let number = self.barred.len();
@@ -84,7 +87,8 @@ impl Desk {
     // Whether there ever was a list with this number. Number 0 is no list.
     #[tactic(auto, unfolding(crate::specs::Desk::signed))]
     pub fn has_signed(&self, number: u32) -> bool
-        ensures { result ≡ signed number self.now.barred }
+        ensures signed { result ≡ signed number self.now.barred }
+        ensures few { length self.now.barred ≤ 1024 }
     {
         number > 0 && number as usize <= self.barred.len()
     }

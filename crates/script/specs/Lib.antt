@@ -1,4 +1,5 @@
 pub mod Setup
+pub mod Roster
 pub mod Scripts
 pub mod Shown
 pub mod Texts

@@ -1,18 +1,20 @@
 // A whole script: every line is read before anything is played, and a faulty script is refused at its first faulty line.
 #![tactic(auto)]
 
-ghost use Rattle.std.specs.Prelude.{◌≡◌, [], ◌∷◌, ◌++◌, IfOk};
+ghost use Rattle.std.specs.Prelude.{◌≡◌, [], ◌∷◌, ◌++◌, MatchResult};
 ghost use Rattle.script.specs.Setup.{holders_of, events_of, is_new, known, checked, command_on};
 ghost use Rattle.script.specs.declared.ScriptError.TheVariants.{Faulty, NoMemory};
 ghost use Rattle.script.specs.Scripts.{Is, script_of, ScriptLaw};
 
 use commands::Command;
 use model::{Event, Holder};
+use roster::Roster;
 use std::alloc::{AllocError, Global};
 use std::marker::Model;
 use words::Wrong;
 use words::cut::bare;
 
+mod roster;
 mod shown;
 pub mod texts;
 
@@ -48,24 +50,27 @@ impl From<AllocError> for ScriptError {
     }
 }
 
-// A script is seen as its commands. Kept with them, in the same order, are the cards and the locks that they set up and the events that they play, since a world and a run take slices of these.
+// A script is seen as its commands. Kept with them, in the same order, are the cards and the locks that they set up and the events that they play, since a world and a run take slices of these; and a roster,
+// since each line asks it who is set up.
 #[derive(Debug, Drop)]
 pub struct Script {
     commands: Vec<Command>,
     holders: Vec<Holder>,
     events: Vec<Event>,
+    roster: Roster,
 }
 
 impl Model for Script {
     ghost use Rattle.std.specs.Prelude.{◌≡◌, List};
     ghost use Rattle.commands.specs.declared.command.Command.{Command};
     ghost use Rattle.script.specs.Setup.{holders_of, events_of};
+    ghost use Rattle.script.specs.Roster.{Lists};
 
     ghost Value = { List Command };
 
     ghost view = { λ s. s.commands.items };
 
-    ghost invariant = { λ s. (s.holders.items ≡ holders_of s.commands.items) × (s.events.items ≡ events_of s.commands.items) };
+    ghost invariant = { λ s. (s.holders.items ≡ holders_of s.commands.items) × (s.events.items ≡ events_of s.commands.items) × Lists s.roster (holders_of s.commands.items) };
 }
 
 impl Script {
@@ -76,6 +81,7 @@ impl Script {
             commands: Vec::new(heap),
             holders: Vec::new(heap),
             events: Vec::new(heap),
+            roster: Roster::new(heap),
         }
     }
 
@@ -99,11 +105,10 @@ impl Script {
         self.events.as_slice()
     }
 
-    // The list is searched from its front, for each line that names somebody: a set beside it would be one list more to keep in step.
     fn is_new(&self, holder: Holder) -> Result<(), Wrong>
         ensures { result ≡ is_new (holders_of self.now) holder }
     {
-        if self.holders().contains(&holder) {
+        if self.roster.has(holder) {
             return Err(Wrong::SetUpAlready);
         }
         Ok(())
@@ -112,7 +117,7 @@ impl Script {
     fn knows(&self, holder: Holder) -> Result<(), Wrong>
         ensures { result ≡ known (holders_of self.now) holder }
     {
-        if self.holders().contains(&holder) {
+        if self.roster.has(holder) {
             return Ok(());
         }
         Err(match holder {
@@ -150,23 +155,22 @@ impl Script {
         Ok(Some(command))
     }
 
-    // The script and one command more. It takes the script whole: a push that fails would leave lent lists that do not agree.
-    fn with(self, command: Command) -> Result<Script, AllocError>
-        ensures { IfOk result (λ script. script ≡ self ++ command ∷ []) }
+    // One command more. All memory is taken first, so that want of it leaves the script as it was.
+    fn add(&mut self, command: Command) -> Result<(), AllocError>
+        ensures { MatchResult result (λ _. self.new ≡ self.old ++ command ∷ []) (λ _. self.new ≡ self.old) }
     {
-        let Script {
-            mut commands,
-            mut holders,
-            mut events,
-        } = self;
-        commands.push(command)?;
-        holders.extend(command.set_up())?;
-        events.extend(command.event())?;
-        Ok(Script {
-            commands,
-            holders,
-            events,
-        })
+        self.commands.reserve(1)?;
+        self.holders.reserve(1)?;
+        self.events.reserve(1)?;
+        if let Some(holder) = command.set_up() {
+            self.roster.add(holder)?;
+            self.holders.push_reserved(holder);
+        }
+        if let Some(event) = command.event() {
+            self.events.push_reserved(event);
+        }
+        self.commands.push_reserved(command);
+        Ok(())
     }
 }
 
@@ -187,7 +191,7 @@ pub fn read(heap: Global, text: &[u8]) -> Result<Script, ScriptError>
             .command_on(front)
             .map_err(|wrong| LineFault { line, wrong })?;
         if let Some(command) = said {
-            script = script.with(command)?;
+            script.add(command)?;
         }
     }
     if script.commands().is_empty() {

@@ -45,7 +45,7 @@ pub fn is_signed<K: VerifyingKey>(key: &K, bytes: &[u8]) -> bool
 
 // Signs the first `n` bytes of lent memory and writes the signature after them. The answer is where that ends, or `None` where it has no
 // room, and then nothing is written. The memory stays lent, with a length beside it: nothing that is signed takes heap.
-// (With `first_chunk_mut` it would be shorter, but where it answers `None` no contract says that the memory is as it was: the proof didn't close.)
+// (With `first_chunk_mut` of what stands after `n` it would be shorter, but the proof that all of the memory is as it was where that answers `None` didn't close.)
 pub fn seal<S: SigningKey>(key: &S, memory: &mut [u8], n: usize) -> Option<usize>
     ensures memory { Sealed (S.signature key.now) n memory.old result memory.new }
     ensures accepted { Accepted (S.Verifying.accepts (S.verifying key.now)) result memory.new }

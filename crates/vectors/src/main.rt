@@ -81,24 +81,25 @@ fn digit(byte: u8) -> Option<u8> {
     }
 }
 
+fn half_of(byte: u8) -> Result<u8, LineError> {
+    digit(byte).ok_or(LineError::NotHexadecimal)
+}
+
+// What is wrong with a digit is said before that one is left over.
 fn bytes_of(heap: Global, word: &[u8]) -> Result<Vec<u8>, LineError> {
     if word == b"-".as_slice() {
         return Ok(Vec::new(heap));
     }
-    let digits: Vec<u8> = word
+    let (pairs, left) = word.as_chunks::<2>();
+    let bytes = pairs
         .iter()
-        .map(|byte| digit(*byte).ok_or(LineError::NotHexadecimal))
+        .map(|[high, low]| -> Result<u8, LineError> { Ok(half_of(*high)? << 4 | half_of(*low)?) })
         .try_collect(heap)?;
-    let (pairs, half) = digits.as_chunks::<2>();
-    if !half.is_empty() {
+    if let [byte, ..] = left {
+        half_of(*byte)?;
         return Err(LineError::HalfByte);
     }
-    Ok(
-        pairs
-            .iter()
-            .map(|[high, low]| high << 4 | low)
-            .collect(heap)?,
-    )
+    Ok(bytes)
 }
 
 // Here and in the two functions that call it the memory and the words stay two parameters: a struct of them would be longer.

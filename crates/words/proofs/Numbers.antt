@@ -1,12 +1,11 @@
 -- Numbers in decimal digits. Assumes nothing.
-use Rattle.std.proofs.Common.{◌≡◌, ℕ, ◌^◌, ◌<◌, true, false, cond, not, ◌&&◌, eqb, ltb, List, length, get_or, Some, None, Ok, Err, Result, decimal, sym, ap, ◌∙◌, inl, inr, arith, rules}
-use Rattle.std.specs.Str.{all_ascii_digits, IsUtf8}
-use Rattle.std.specs.Str.Parse.{ParsesUnsigned}
-use Rattle.std.specs.Result.{result_ok}
-use Rattle.std.proofs.lemmas.Str.Parse.{IsNumeralModel, numerals_by_fold, parse_digits, not_in_digits}
-use Rattle.std.proofs.lemmas.Str.{IsUtf8-from_ascii}
-use Rattle.std.proofs.lemmas.Bool.{and_parts, and_cases, and_left, and_right, and_from, not-true, not_from_false, cond-true, cond-false, cases_Bool, cases_order, cases_lt, le-ltb, lt-ltb, ltb-true, ltb-false, eqb-false, ne_eqb}
-use Rattle.std.proofs.lemmas.Fmt.{IsAscii-from_digits, decimal-digits_value, decimal_digit, decimal_nonempty, first_decimal, digits_decimal, digits_value-decimal}
+use Rattle.std.proofs.Common.{◌≡◌, ℕ, ◌+◌, ◌-◌, ◌*◌, ◌^◌, ◌<◌, ◌≤◌, true, false, cond, not, ◌&&◌, eqb, ltb, List, [], ◌∷◌, length, get_or, drop, Some, None, decimal, sym, ap, ◌∙◌, inl, inr, arith, rules}
+use Rattle.std.specs.Int.{IsInRange}
+use Rattle.std.specs.Str.{all_ascii_digits}
+use Rattle.std.proofs.lemmas.Str.Parse.{IsNumeralModel, numerals_by_fold, digit_at, not_in_digits}
+use Rattle.std.proofs.lemmas.List.{at_drop_more, at_drop_all}
+use Rattle.std.proofs.lemmas.Bool.{and_parts, and_cases, and_left, and_right, and_from, not-true, not_from_false, cond-true, cond-false, cases_Bool, cases_order, le-ltb, lt-ltb, ltb-true, ltb-false, eqb-false, ne_eqb}
+use Rattle.std.proofs.lemmas.Fmt.{decimal-digits_value, decimal_digit, decimal_nonempty, first_decimal, digits_decimal, digits_value-decimal}
 use Rattle.words.specs.Words.{is_numeral, read_on, number_of}
 
 pub own : IsNumeralModel (λ ds. all_ascii_digits ds ≡ true) (read_on 0)
@@ -16,26 +15,35 @@ own = numerals_by_fold _ (search rules) read_on (search rules)
 pub numeral_digits : (w : List ℕ) → is_numeral w ≡ true → all_ascii_digits w ≡ true
 numeral_digits w e = (and_parts (not (ltb 1 (length w) && eqb (get_or w 0 0) 48)) (all_ascii_digits w) (and_parts (ltb 0 (length w)) _ e).1).1
 
-pub numeral_text : (w : List ℕ) → is_numeral w ≡ true → IsUtf8 w
-numeral_text w e = IsUtf8-from_ascii w (IsAscii-from_digits w (own.to w (numeral_digits w e)))
+pub numeral_digit : (w : List ℕ) (i : ℕ) → is_numeral w ≡ true → i < length w → IsInRange 48 57 (get_or w i 0)
+numeral_digit w i e h = digit_at w i (own.to w (numeral_digits w e)) h
 
 pub not_numeral : (w : List ℕ) → is_numeral w ≡ false → None ≡ number_of w
 unfolding number_of
 not_numeral w e = sym (ap (λ b. cond (b && ltb (read_on 0 w) (2 ^ 32)) (Some (read_on 0 w)) None) e)
 
--- what `parse` gives at a numeral
-pub numeral_parsed : {E : Type 0} → (w : List ℕ) (r : Result ℕ E) → is_numeral w ≡ true → ParsesUnsigned 32 10 w r → result_ok r ≡ number_of w
+-- a number only grows as it is read
+grows : (n : ℕ) (ds : List ℕ) → n ≤ read_on n ds
+unfolding read_on
+grows n [] = omega arith
+grows n (d ∷ ds) = omega (arith, grows (10 * n + (d - 48)) ds)
+
+-- one digit more
+pub read_more : (n : ℕ) (w : List ℕ) (i d : ℕ) → i < length w → d ≡ get_or w i 0 - 48 → read_on (10 * n + d) (drop (i + 1) w) ≡ read_on n (drop i w)
+unfolding read_on
+read_more n w i d h e = ap (λ x. read_on (10 * n + x) (drop (i + 1) w)) e ∙ sym (at_drop_more (read_on n) w i 0 h)
+
+-- what is read is too large already
+pub too_large : (w : List ℕ) (n : ℕ) (ds : List ℕ) → read_on n ds ≡ read_on 0 w → 2 ^ 32 ≤ n → None ≡ number_of w
 unfolding number_of
-numeral_parsed {E} w (Ok n) e h =
-    let p = parse_digits own {E = E} 32 w (Ok n) h (numeral_digits w e) in
-    ap (λ m. Some m) p.1 ∙ sym (cond-true _ _ _ (and_from _ _ e (lt-ltb (read_on 0 w) (2 ^ 32) p.0.1)))
-numeral_parsed {E} w (Err d) e h =
-    let p = parse_digits own {E = E} 32 w (Err d) h (numeral_digits w e) in
-    let long = ltb-true 0 (length w) (and_parts (ltb 0 (length w)) _ e).0 in
-    elim (cases_lt (read_on 0 w) (2 ^ 32)) [
-      | inl fits ↦ absurd (p (long, fits))
-      | inr large ↦ sym (cond-false _ _ _ (and_right (is_numeral w) _ (le-ltb (read_on 0 w) (2 ^ 32) large)))
-    ]
+too_large w n ds e h = sym (cond-false _ _ _ (and_right (is_numeral w) _ (le-ltb (read_on 0 w) (2 ^ 32) (omega (arith, grows n ds)))))
+
+-- all of it is read
+pub read_all : (w : List ℕ) (n i : ℕ) → is_numeral w ≡ true → length w ≤ i → read_on n (drop i w) ≡ read_on 0 w → n < 2 ^ 32 → Some n ≡ number_of w
+unfolding number_of read_on
+read_all w n i t le e h =
+    let is : n ≡ read_on 0 w = sym (at_drop_all (read_on n) w i le) ∙ e in
+    ap (λ m. Some m) is ∙ sym (cond-true _ _ _ (and_from _ _ t (lt-ltb (read_on 0 w) (2 ^ 32) (omega arith))))
 
 -- ---- a word is the number n exactly if n is written so
 

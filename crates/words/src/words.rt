@@ -17,14 +17,20 @@ fn is_numeral(word: &[u8]) -> bool
     }
 }
 
-#[tactic(auto, using(crate::proofs::Numbers::numeral_text, crate::proofs::Numbers::not_numeral, crate::proofs::Numbers::numeral_parsed))]
+#[tactic(auto, using(crate::proofs::Numbers::not_numeral))]
 fn number_of(word: &[u8]) -> Option<u32>
     ensures { result ≡ number_of word.now }
 {
     if !is_numeral(word) {
         return None;
     }
-    str::from_utf8(word).ok()?.parse().ok()
+    let mut value: u32 = 0;
+    for digit in word {
+        value = value
+            .checked_mul(10)?
+            .checked_add(u32::from(*digit - b'0'))?;
+    }
+    Some(value)
 }
 
 fn id_of(word: &[u8]) -> Option<u16>
@@ -58,6 +64,7 @@ impl<'a> Words<'a> {
     }
 
     // The number of a card or a lock.
+    #[inline]
     pub fn id(&mut self) -> Result<u16, Wrong>
         ensures { with result (left self.new) ≡ id_from (left self.old) }
     {

@@ -1,7 +1,6 @@
 -- What a world is, the model's state that it stands for, and what set-up and a step give. Assumes nothing.
 use Rattle.std.specs.Prelude.{◌≡◌, ◌↔◌, ℕ, Bool, List, Contains, IsTrue, is_some, unwrap_or, Some, None, Ok, Err, Option, Result}
-use Rattle.std.specs.Ordering.{nat_cmp}
-use Rattle.std.specs.BTreeMap.{BTreeMap, get}
+use Rattle.places.specs.Places.{at}
 use Rattle.model.specs.declared.Event.{Event}
 use Rattle.model.specs.declared.Answer.{Answer}
 use Rattle.model.specs.declared.Holder.{Holder}
@@ -11,9 +10,9 @@ use Rattle.world.specs.declared.state.World.{World}
 use Rattle.world.specs.Roster.{missing}
 
 -- the number of the list of a card or a lock, if it is set up
-abbrev pub list_in : BTreeMap ℕ ℕ → BTreeMap ℕ ℕ → Holder → Option ℕ
-list_in cards locks (Card c) = get nat_cmp cards c
-list_in cards locks (Lock l) = get nat_cmp locks l
+abbrev pub list_in : List (Option ℕ) → List (Option ℕ) → Holder → Option ℕ
+list_in cards locks (Card c) = at cards c
+list_in cards locks (Lock l) = at locks l
 
 abbrev pub list_of : World → Holder → Option ℕ
 list_of w h = list_in w.cards w.locks h

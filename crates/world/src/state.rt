@@ -1,6 +1,8 @@
 // What there is in the valley.
+ghost use Rattle.std.specs.Prelude.{◌≤◌, length};
+
 use office::Desk;
-use std::collections::BTreeMap;
+use places::Places;
 use visits::{Card, Lock};
 
 pub mod setup;
@@ -11,6 +13,9 @@ pub mod step;
 #[derive(Debug, Drop)]
 pub struct World {
     desk: Desk,
-    cards: BTreeMap<u16, Card>,
-    locks: BTreeMap<u16, Lock>,
+    cards: Places<Card>,
+    locks: Places<Lock>,
+    ghost few: { length desk.barred ≤ 1024 },
+    ghost card_places: { length cards ≤ 65536 },
+    ghost lock_places: { length locks ≤ 65536 },
 }

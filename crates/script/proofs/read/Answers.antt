@@ -41,12 +41,12 @@ loop-above-preserved c =
     let heard : c.command_on.result ≡ Ok None = search rules in
     (search rules, search rules, rw step.2 (no_command c.loop-above.invariant.2 _ _ next (sym c.command_on.ensures ∙ heard)))
 
-pub loop-above-preserved-in-Some-said : goal.loop-above-preserved-in-Some-said
-loop-above-preserved-in-Some-said c =
+pub loop-above-preserved-in-Continue-branch-2 : goal.loop-above-preserved-in-Continue-branch-2
+loop-above-preserved-in-Continue-branch-2 c =
     let step = c.in-Some.ensures.steps in
     let next = line_of _ (enumerate_source c.loop-above.above-iterator) (enumerate_source c.next.new.self) c.in-Some.row step.0 (λ f a r g k. search (rules, tests)) (search rules) in
     let heard : c.command_on.result ≡ Ok (Some c.in-Some-said.command) = search rules in
-    (search rules, search rules, rw (step.2, c.in_ok-script.ensures) (one_command c.loop-above.invariant.2 _ _ _ next (sym c.command_on.ensures ∙ heard)))
+    (search rules, search rules, rw (step.2, c.in_ok-add.ensures) (one_command c.loop-above.invariant.2 _ _ _ next (sym c.command_on.ensures ∙ heard)))
 
 pub returns-then-is_empty : goal.returns-then-is_empty
 returns-then-is_empty c =

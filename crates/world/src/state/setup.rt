@@ -5,8 +5,8 @@ ghost use Rattle.world.specs.World.{Fresh};
 use super::World;
 use model::Holder;
 use office::Desk;
+use places::Places;
 use std::alloc::{AllocError, Global};
-use std::collections::BTreeMap;
 use visits::{Card, Lock};
 
 impl World {
@@ -15,16 +15,12 @@ impl World {
         ensures { IfOk result (λ w. Fresh holders.now w) }
     {
         let desk = Desk::new(heap)?;
-        let mut cards = BTreeMap::new(heap);
-        let mut locks = BTreeMap::new(heap);
+        let mut cards = Places::for_all(heap)?;
+        let mut locks = Places::for_all(heap)?;
         for holder in holders {
             match *holder {
-                Holder::Card(number) => {
-                    cards.insert(number, Card::new())?;
-                }
-                Holder::Lock(number) => {
-                    locks.insert(number, Lock::new())?;
-                }
+                Holder::Card(number) => cards.insert(number, Card::new())?,
+                Holder::Lock(number) => locks.insert(number, Lock::new())?,
             }
         }
         Ok(World { desk, cards, locks })

@@ -30,14 +30,14 @@ impl World {
     pub fn card(&self, card: u16) -> Option<Card>
         ensures { result ≡ list_of self.now (Holder.Card card) }
     {
-        self.cards.get(&card).copied()
+        self.cards.get(card)
     }
 
     // A lock's memory, if it is set up.
     pub fn lock(&self, lock: u16) -> Option<Lock>
         ensures { result ≡ list_of self.now (Holder.Lock lock) }
     {
-        self.locks.get(&lock).copied()
+        self.locks.get(lock)
     }
 
     // Whether a card or a lock is set up.
@@ -45,8 +45,8 @@ impl World {
         ensures { result ≡ roster self.now holder }
     {
         match holder {
-            Holder::Card(card) => self.cards.contains_key(&card),
-            Holder::Lock(lock) => self.locks.contains_key(&lock),
+            Holder::Card(card) => self.cards.get(card).is_some(),
+            Holder::Lock(lock) => self.locks.get(lock).is_some(),
         }
     }
 
@@ -72,29 +72,27 @@ impl World {
     fn at_desk(&mut self, card: u16) -> Result<Answer, Holder>
         ensures { Steps self.old (Event.AtDesk card) result self.new }
     {
-        let memory = self.cards.get_mut(&card).ok_or(Holder::Card(card))?;
+        let mut memory = self.card(card).ok_or(Holder::Card(card))?;
         let number = self.desk.newest();
         memory.take_list(number);
+        self.cards.replace(card, memory);
         Ok(Answer::Given(number))
     }
 
     fn visit(&mut self, card: u16, lock: u16) -> Result<Answer, Holder>
         ensures { Steps self.old (Event.Visit card lock) result self.new }
     {
-        // Whom a visit names is taken apart by `let .. else`, here and in `adversary`, as was asked for. The card's memory is a copy until the lock is found: with both lent at once, the
-        // cards of a visit at an unknown lock could not be proved to be the same map, and what is refused changes nothing.
+        // Whom a visit names is taken apart by `let .. else`, here and in `adversary`, as was asked for.
         let Some(mut visitor) = self.card(card) else {
             return Err(Holder::Card(card));
         };
-        let Some(host) = self.locks.get_mut(&lock) else {
+        let Some(mut host) = self.lock(lock) else {
             return Err(Holder::Lock(lock));
         };
-        exchange(&mut visitor, host);
-        let answer = decided(&self.desk, card, *host);
-        if let Some(memory) = self.cards.get_mut(&card) {
-            *memory = visitor;
-        }
-        Ok(answer)
+        exchange(&mut visitor, &mut host);
+        self.cards.replace(card, visitor);
+        self.locks.replace(lock, host);
+        Ok(decided(&self.desk, card, host))
     }
 
     fn adversary(
@@ -109,17 +107,19 @@ impl World {
         let Some(_) = self.card(card) else {
             return Err(Holder::Card(card));
         };
-        let Some(host) = self.locks.get_mut(&lock) else {
+        let Some(mut host) = self.lock(lock) else {
             return Err(Holder::Lock(lock));
         };
         // it can give only what the desk once signed
         if gives.is_some_and(|number| !self.desk.has_signed(number)) {
             return Ok(Answer::NoList);
         }
-        if !host.hear(says, gives) {
+        let comes = host.hear(says, gives);
+        self.locks.replace(lock, host);
+        if !comes {
             return Ok(Answer::BrokenOff);
         }
-        Ok(decided(&self.desk, card, *host))
+        Ok(decided(&self.desk, card, host))
     }
 
     // What an event brings about. Only an event that names somebody unknown fails, and it changes nothing.

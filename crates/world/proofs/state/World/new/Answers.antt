@@ -1,5 +1,4 @@
-use Rattle.std.proofs.Common.{rules, arith}
-use Rattle.std.proofs.lemmas.Grind.{common_steps}
+use Rattle.std.proofs.Common.{rules}
 use Rattle.model.specs.declared.Holder.TheVariants.{Card, Lock}
 use Rattle.model.proofs.Tables.{same_state}
 use Rattle.world.proofs.Roster.{one_card, one_lock, whole}
@@ -11,15 +10,15 @@ loop-holder-preserved c =
     elim c.match-holder.branch [
       | in-Card+in_ok-insert-in-Card w ↦
           rw (w.cards-is, w.locks-is)
-          (one_card _ _ _ _ c.loop-holder.cards w.insert.new.self c.loop-holder.locks c.loop-holder-test.true w.in-Card.is (search rules) (λ q ne. grind (arith, common_steps)) c.loop-holder.invariant)
+          (one_card _ _ _ _ _ _ _ c.loop-holder-test.true w.in-Card.is (search rules) c.loop-holder.invariant.0, search rules, search rules)
       | in-Lock+in_ok-insert-in-Lock w ↦
           rw (w.cards-is, w.locks-is)
-          (one_lock _ _ _ _ c.loop-holder.cards c.loop-holder.locks w.insert-in-Lock.new.self c.loop-holder-test.true w.in-Lock.is (search rules) (λ q ne. grind (arith, common_steps)) c.loop-holder.invariant)
+          (one_lock _ _ _ _ _ _ _ c.loop-holder-test.true w.in-Lock.is (search rules) c.loop-holder.invariant.0, search rules, search rules)
     ]
 
 pub returns : goal.returns
 returns c =
-    let s = c.loop-holder.invariant in
+    let s = c.loop-holder.invariant.0 in
     record {
       state = same_state (search rules) (search rules) (λ k. (s (Card k)).1) (λ l. (s (Lock l)).1);
       there = λ h. let w = whole c.args.holders.now c.loop-holder.holder-index h c.loop-holder-test.false c.loop-holder.auto.holder-index-end in (λ t. w.0 ((s h).0.0 t), λ p. (s h).0.1 (w.1 p));
