@@ -38,7 +38,12 @@ impl Hasher {
     {
         let used = self.used();
         self.count += part.len() as u64;
-        if let Some((end, rest)) = part.split_at_checked(64 - used) {
+        if used == 0 {
+            // Whole blocks at the front are processed where they stand, so that nothing of them, as of a key, stays here.
+            self.state = process(self.state, part);
+            let (_, left) = part.as_chunks::<64>();
+            put(&mut self.pending, 0, left);
+        } else if let Some((end, rest)) = part.split_at_checked(64 - used) {
             // The pending block is full now, and the whole blocks after it are processed where they stand.
             put(&mut self.pending, used, end);
             self.state = process(process(self.state, &self.pending), rest);
