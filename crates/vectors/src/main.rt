@@ -73,16 +73,12 @@ enum Failure {
 }
 
 // Not by the kit's `hex`, which takes capital letters too.
-fn digit(byte: u8) -> Option<u8> {
+fn digit(byte: u8) -> Result<u8, LineError> {
     match byte {
-        b'0'..=b'9' => Some(byte - b'0'),
-        b'a'..=b'f' => Some(byte - b'a' + 10),
-        _ => None,
+        b'0'..=b'9' => Ok(byte - b'0'),
+        b'a'..=b'f' => Ok(byte - b'a' + 10),
+        _ => Err(LineError::NotHexadecimal),
     }
-}
-
-fn half_of(byte: u8) -> Result<u8, LineError> {
-    digit(byte).ok_or(LineError::NotHexadecimal)
 }
 
 // What is wrong with a digit is said before that one is left over.
@@ -93,10 +89,10 @@ fn bytes_of(heap: Global, word: &[u8]) -> Result<Vec<u8>, LineError> {
     let (pairs, left) = word.as_chunks::<2>();
     let bytes = pairs
         .iter()
-        .map(|[high, low]| -> Result<u8, LineError> { Ok(half_of(*high)? << 4 | half_of(*low)?) })
+        .map(|[high, low]| -> Result<u8, LineError> { Ok(digit(*high)? << 4 | digit(*low)?) })
         .try_collect(heap)?;
     if let [byte, ..] = left {
-        half_of(*byte)?;
+        digit(*byte)?;
         return Err(LineError::HalfByte);
     }
     Ok(bytes)
