@@ -1,6 +1,8 @@
-// Examples of runs, scripts and signatures. They stand in a crate of their own, since a crate with tests is proved twice.
+// Examples of maps, runs, scripts and signatures. They stand in a crate of their own, since a crate with tests is proved twice.
 #![tactic(auto)]
 
+#[cfg(test)]
+mod maps;
 #[cfg(test)]
 mod runs;
 #[cfg(test)]
