@@ -97,6 +97,7 @@ impl Desk {
     pub fn list(&self, number: u32) -> &[u32]
         ensures barrings { result.now ≡ take number self.now.barred }
         ensures few { length result.now ≤ 1024 }
+        ensures row { length self.now.barred ≤ 1024 }
     {
         let count = (number as usize).min(self.barred.len());
         &self.barred[..count]
