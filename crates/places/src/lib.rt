@@ -1,14 +1,11 @@
-// A map from numbers of 16 bits, as those of cards and locks: a place for each number up to the highest that has something, so that a look-up is one step however many there are.
+// A map from numbers of 16 bits, as those of cards and locks: a place for each number up to the highest that has something, and a few more, so that a look-up is one step however many there are.
 #![tactic(auto)]
 
-ghost use Rattle.std.specs.Prelude.{◌≡◌, ◌≤◌, [], length, IfOk, MatchOption};
+ghost use Rattle.std.specs.Prelude.{◌≡◌, ◌≤◌, [], length, MatchOption};
 ghost use Rattle.places.specs.Places.{at, Put, Inserted};
 
 use std::alloc::{AllocError, Global};
 use std::marker::Model;
-
-// One more than the highest number.
-pub const MOST: usize = 65536;
 
 #[derive(Debug, Drop)]
 pub struct Places<T> {
@@ -27,21 +24,13 @@ impl<T> Model for Places<T> {
 }
 
 impl<T: Copy> Places<T> {
-    // Nothing anywhere yet; it takes memory as it grows.
+    // Nothing anywhere yet, and no memory taken: it grows as it is filled.
     pub fn new(heap: Global) -> Places<T>
         ensures { result ≡ [] }
     {
         Places {
             items: Vec::new(heap),
         }
-    }
-
-    // Nothing anywhere yet, and the memory for all numbers is taken. What stands above the highest number is never touched.
-    pub fn for_all(heap: Global) -> Result<Places<T>, AllocError>
-        ensures { IfOk result (λ p. p ≡ []) }
-    {
-        let items = Vec::with_capacity(heap, MOST)?;
-        Ok(Places { items })
     }
 
     // What stands at a number.

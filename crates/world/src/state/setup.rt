@@ -15,8 +15,8 @@ impl World {
         ensures { IfOk result (λ w. Fresh holders.now w) }
     {
         let desk = Desk::new(heap)?;
-        let mut cards = Places::for_all(heap)?;
-        let mut locks = Places::for_all(heap)?;
+        let mut cards = Places::new(heap);
+        let mut locks = Places::new(heap);
         for holder in holders {
             match *holder {
                 Holder::Card(number) => cards.insert(number, Card::new())?,
